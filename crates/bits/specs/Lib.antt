@@ -1,0 +1,4 @@
+pub mod Field
+pub mod Pack
+pub mod Put
+pub mod Take
