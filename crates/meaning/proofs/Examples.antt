@@ -1,0 +1,108 @@
+-- The sheets of document 01's runs to check against, byte for byte.
+use Prim.Native.Nat.{ℕ}
+use mathlib.Core.List.{List, [], _∷_, _++_}
+
+-- ---- base example
+
+-- S: Dent 0, Joint 1, Loss 2; links Dent to Joint and Loss to Joint; a station on Dent and on Loss
+abbrev pub vendor : List ℕ
+vendor = 0x18 ∷ 0x42 ∷ 0x00 ∷ 0x04 ∷ 0x84 ∷ 0x04 ∷ 0x84 ∷ []
+
+-- T: Anomaly 0, Joint 1, one link, one station
+abbrev pub operator : List ℕ
+operator = 0x10 ∷ 0x21 ∷ 0x00 ∷ 0x04 ∷ 0x04 ∷ []
+
+-- dents and losses are anomalies
+abbrev pub vendorToOperator : List ℕ
+vendorToOperator = 0x01 ∷ 0x01 ∷ 0x00 ∷ 0x80 ∷ 0x00 ∷ []
+
+-- dents 700 and 300, loss 705
+abbrev pub run : List ℕ
+run = 0x00 ∷ 0x80 ∷ 0x20 ∷ 0x04 ∷ 0x02 ∷ 0x00 ∷ 0x00 ∷ 0x80 ∷ 0x00 ∷ 0x01 ∷ 0x5E ∷ 0x00 ∷ 0x00 ∷ 0x00 ∷ 0x96 ∷ 0x00 ∷ 0x00 ∷ 0x01 ∷ 0x60 ∷ 0x80 ∷ []
+
+-- case 1's result
+abbrev pub pushedRun : List ℕ
+pushedRun = 0x00 ∷ 0xC0 ∷ 0x20 ∷ 0x08 ∷ 0x00 ∷ 0x02 ∷ 0x00 ∷ 0x00 ∷ 0x05 ∷ 0x78 ∷ 0x00 ∷ 0x00 ∷ 0x02 ∷ 0x58 ∷ 0x00 ∷ 0x00 ∷ 0x05 ∷ 0x82 ∷ []
+
+-- case 3: anomalies 300, 705, 700 at joints 0, 1, 1 of 2
+abbrev pub book : List ℕ
+book = 0x00 ∷ 0xC0 ∷ 0x20 ∷ 0x00 ∷ 0x04 ∷ 0x02 ∷ 0x00 ∷ 0x00 ∷ 0x02 ∷ 0x58 ∷ 0x00 ∷ 0x00 ∷ 0x05 ∷ 0x82 ∷ 0x00 ∷ 0x00 ∷ 0x05 ∷ 0x78 ∷ []
+
+-- ---- case 4
+
+-- S: one edge 0 to 1
+abbrev pub arrow : List ℕ
+arrow = 0x10 ∷ 0x20 ∷ 0x00 ∷ 0x04 ∷ []
+
+-- T: one node
+abbrev pub point : List ℕ
+point = 0x08 ∷ 0x00 ∷ 0x00 ∷ []
+
+-- the edge to the trivial path
+abbrev pub arrowToPoint : List ℕ
+arrowToPoint = 0x00 ∷ 0x00 ∷ []
+
+-- 3 rows at 0, linked to 1, 0 and 1 of 2
+abbrev pub arrowRun : List ℕ
+arrowRun = 0x00 ∷ 0xC0 ∷ 0x20 ∷ 0x08 ∷ 0x00 ∷ 0x02 ∷ []
+
+-- ---- case 5
+
+-- S: 0 to 1 to 2 and 0 to 3
+abbrev pub fork : List ℕ
+fork = 0x20 ∷ 0x60 ∷ 0x00 ∷ 0x04 ∷ 0x48 ∷ 0x0C ∷ []
+
+-- T: 0 to 1 to 2
+abbrev pub line : List ℕ
+line = 0x18 ∷ 0x40 ∷ 0x00 ∷ 0x04 ∷ 0x48 ∷ []
+
+-- 3 goes to 2, the third edge to the whole path
+abbrev pub forkToLine : List ℕ
+forkToLine = 0x01 ∷ 0x22 ∷ 0x10 ∷ 0x08 ∷ 0x48 ∷ 0x01 ∷ []
+
+-- no rows
+abbrev pub forkRun : List ℕ
+forkRun = 0x00 ∷ 0x00 ∷ 0x00 ∷ 0x00 ∷ 0x00 ∷ []
+
+-- ---- case 6
+
+-- S: Joint, Weld without edges
+abbrev pub jointWeld : List ℕ
+jointWeld = 0x10 ∷ 0x00 ∷ 0x00 ∷ []
+
+-- T: Pair 0 linked to Joint 1 and Weld 2
+abbrev pub pair : List ℕ
+pair = 0x18 ∷ 0x40 ∷ 0x00 ∷ 0x04 ∷ 0x08 ∷ []
+
+abbrev pub jointWeldToPair : List ℕ
+jointWeldToPair = 0x12 ∷ []
+
+-- 2 joints and 3 welds
+abbrev pub jointWeldRun : List ℕ
+jointWeldRun = 0x00 ∷ 0x80 ∷ 0x30 ∷ []
+
+-- ---- cases 7, 8 and 9
+
+-- edges a 0 to 1, b 1 to 3, c 0 to 2, d 2 to 3, f 3 to 4: with ab = cd
+abbrev pub shortRule : List ℕ
+shortRule = 0x28 ∷ 0xA0 ∷ 0x04 ∷ 0x04 ∷ 0x4C ∷ 0x08 ∷ 0x8C ∷ 0xD0 ∷ 0x08 ∷ 0x01 ∷ 0x02 ∷ 0x10 ∷ 0xC0 ∷ []
+
+-- with only abf = cdf
+abbrev pub longRule : List ℕ
+longRule = 0x28 ∷ 0xA0 ∷ 0x04 ∷ 0x04 ∷ 0x4C ∷ 0x08 ∷ 0x8C ∷ 0xD0 ∷ 0x0C ∷ 0x01 ∷ 0x20 ∷ 0x18 ∷ 0x86 ∷ 0x40 ∷ []
+
+abbrev pub ab : List ℕ
+ab = 0x02 ∷ 0x00 ∷ 0x40 ∷ []
+
+abbrev pub cd : List ℕ
+cd = 0x02 ∷ 0x10 ∷ 0xC0 ∷ []
+
+abbrev pub abf : List ℕ
+abf = 0x03 ∷ 0x00 ∷ 0x48 ∷ []
+
+abbrev pub cdf : List ℕ
+cdf = 0x03 ∷ 0x10 ∷ 0xC8 ∷ []
+
+-- one byte too many
+abbrev pub abAndByte : List ℕ
+abAndByte = ab ++ (0x00 ∷ [])

@@ -1,0 +1,272 @@
+-- What an accepted sheet gives: each of its tests passed, each of its lists as long as it should be, each number below its field's bound.
+use Prim.Native.Nat.{ℕ, _^_, _<_, _≤_}
+use mathlib.Core.Path.{_≡_, refl, subst}
+use mathlib.Core.Bool.{true, false, not, _&&_}
+use mathlib.Core.List.{List, [], List·Memᴰ}
+use native.Mathlib.Omega.{arith}
+use lib.ListN.{length, getD}
+use lib.Dec.{leb}
+use borrow.Author.Tests.{leb-true, not-true}
+use Rattle.meaning.specs.Lists.{sumOf}
+use Rattle.meaning.specs.Schema.{Path, Equation, Graph, Schema, source, target, attributeAt, isPath, hasLoop}
+use Rattle.meaning.specs.Sheet.{sound, onSheet}
+use Rattle.meaning.specs.Formats.{Counts, Mapping, Instance, maxNodes, maxEdges, maxAttributes, maxEquations, maxRows, countsInLimits, readEdges, readPath, readPathSheet, readCounts, readEdge, readAttribute, readEquation, readLists, readSchema, readMapping, readInstance, readMatching, kinds}
+use Rattle.meaning.specs.Views.{count, link, column, value, edgeImage}
+use Rattle.meaning.specs.Judge.{isWellFormed, hasFewPaths, testSchema, judgeSchema, judgePath, judgeMapping, judgeInstance, imagesFit, keepsEquations, linksInRange, valuesInRange, obeysEquations}
+use Rattle.meaning.specs.Matching.{isMatching, judgeMatching}
+use Rattle.meaning.proofs.Tabulate.{and-both}
+use Rattle.meaning.proofs.Readers.{Gives, gives-bind, gives-give, gives-as, gives-field, gives-ensure, gives-finish, Every, none, every-in, every-at, gives-times, pointwise-length, pointwise-at, pointwise-every, gives-inTurn, sound-same, given, bind-sound, ensure-sound}
+
+-- ---- paths
+gives-edges : Gives readEdges (λ es. length es ≤ 15)
+gives-edges = gives-bind (gives-field 4) (λ k h. gives-as (gives-times k (gives-field 5)) (λ es e. omega arith))
+
+gives-path : Gives readPath (λ p. length (p .edges) ≤ 15)
+gives-path = gives-bind (gives-field 4) (λ n _. gives-bind gives-edges (λ es h. gives-give h))
+
+pub record PathFacts (G : Graph) (p : Path) : Type 0 where
+  pub is-path : isPath G p ≡ true
+  pub short : length (p .edges) ≤ 15
+
+pub path-facts : (G : Graph) (s : List ℕ) {p : Path} → judgePath G s ≡ sound p → PathFacts G p
+path-facts G s e =
+    let a = bind-sound (onSheet readPathSheet s) _ e in
+    let b = ensure-sound (isPath G (a .0)) 4 _ (a .2) in
+    subst (PathFacts G) (sound-same (b .1)) (record {
+      is-path = b .0;
+      short = given (gives-bind gives-path (λ p h. gives-bind gives-finish (λ _ _. gives-give h))) s (a .1);
+    })
+
+-- ---- schemas
+
+-- what the reader of a schema sheet gives
+record Sized (c : Counts) (S : Schema) : Type 0 where
+  nodes : S .graph .nodes ≡ c .nodes
+  edges : length (S .graph .edges) ≡ c .edges
+  attributes : length (S .attributes) ≡ c .attributes
+  equations : length (S .equations) ≡ c .equations
+  kinds-small : Every (λ a. a .kind < 16) (S .attributes)
+  sides-short : Every (λ q. (length (q .left .edges) ≤ 15) × (length (q .right .edges) ≤ 15)) (S .equations)
+
+gives-attribute : Gives readAttribute (λ a. a .kind < 16)
+gives-attribute = gives-bind (gives-field 4) (λ n _. gives-bind (gives-field 4) (λ k h. gives-give h))
+
+gives-equation : Gives readEquation (λ q. (length (q .left .edges) ≤ 15) × (length (q .right .edges) ≤ 15))
+gives-equation = gives-bind gives-path (λ l h. gives-bind gives-path (λ r k. gives-give (h, k)))
+
+gives-edge : Gives readEdge (λ _. Unit {0})
+gives-edge = record { so = λ s p e. tt }
+
+gives-lists : (c : Counts) → Gives (readLists c) (Sized c)
+gives-lists c =
+    gives-bind (gives-times (c .edges) gives-edge) (λ es e.
+    gives-bind (gives-times (c .attributes) gives-attribute) (λ as′ a.
+    gives-bind (gives-times (c .equations) gives-equation) (λ qs q.
+    gives-give (record { nodes = refl; edges = e .0; attributes = a .0; equations = q .0; kinds-small = a .1; sides-short = q .1 }))))
+
+record SchemaRead (S : Schema) : Type 0 where
+  c : Counts
+  limits : countsInLimits c ≡ true
+  sized : Sized c S
+
+gives-schema : Gives readSchema SchemaRead
+gives-schema =
+    gives-bind gives-counts (λ c _.
+    gives-bind (gives-ensure (countsInLimits c) 3) (λ _ h.
+    gives-bind (gives-lists c) (λ S k.
+    gives-bind gives-finish (λ _ _.
+    gives-give (record { c = c; limits = h; sized = k })))))
+  where
+    gives-counts : Gives readCounts (λ _. Unit {0})
+    gives-counts = record { so = λ s p e. tt }
+
+record Limits (c : Counts) : Type 0 where
+  some-node : 1 ≤ c .nodes
+  nodes : c .nodes ≤ maxNodes
+  edges : c .edges ≤ maxEdges
+  attributes : c .attributes ≤ maxAttributes
+  equations : c .equations ≤ maxEquations
+
+limits-of : (c : Counts) → countsInLimits c ≡ true → Limits c
+limits-of c e =
+    let q = and-both (leb 1 (c .nodes) && leb (c .nodes) maxNodes && leb (c .edges) maxEdges && leb (c .attributes) maxAttributes) (leb (c .equations) maxEquations) e in
+    let a = and-both (leb 1 (c .nodes) && leb (c .nodes) maxNodes && leb (c .edges) maxEdges) (leb (c .attributes) maxAttributes) (q .0) in
+    let d = and-both (leb 1 (c .nodes) && leb (c .nodes) maxNodes) (leb (c .edges) maxEdges) (a .0) in
+    let n = and-both (leb 1 (c .nodes)) (leb (c .nodes) maxNodes) (d .0) in
+    record {
+      some-node = leb-true 1 (c .nodes) (n .0);
+      nodes = leb-true (c .nodes) maxNodes (n .1);
+      edges = leb-true (c .edges) maxEdges (d .1);
+      attributes = leb-true (c .attributes) maxAttributes (a .1);
+      equations = leb-true (c .equations) maxEquations (q .1);
+    }
+
+pub record SchemaFacts (S : Schema) : Type 0 where
+  pub well-formed : isWellFormed S ≡ true
+  pub loop-free : hasLoop (S .graph) ≡ false
+  pub few-paths : hasFewPaths (S .graph) ≡ true
+  pub some-node : 1 ≤ S .graph .nodes
+  pub nodes : S .graph .nodes ≤ maxNodes
+  pub edges : length (S .graph .edges) ≤ maxEdges
+  pub attributes : length (S .attributes) ≤ maxAttributes
+  pub equations : length (S .equations) ≤ maxEquations
+  pub kind : (a : ℕ) → attributeAt S a .kind < 16
+  pub left : (q : Equation) → List·Memᴰ q (S .equations) → length (q .left .edges) ≤ 15
+  pub right : (q : Equation) → List·Memᴰ q (S .equations) → length (q .right .edges) ≤ 15
+
+pub schema-facts : (s : List ℕ) {S : Schema} → judgeSchema s ≡ sound S → SchemaFacts S
+schema-facts s e =
+    let r = bind-sound (onSheet readSchema s) testSchema e in
+    let S = r .0 in
+    let w = ensure-sound (isWellFormed S) 4 _ (r .2) in
+    let l = ensure-sound (not (hasLoop (S .graph))) 5 _ (w .1) in
+    let p = ensure-sound (hasFewPaths (S .graph)) 6 _ (l .1) in
+    let g = given gives-schema s (r .1) in
+    let k = g .sized in
+    let m = limits-of (g .c) (g .limits) in
+    subst SchemaFacts (sound-same (p .1)) (record {
+      well-formed = w .0;
+      loop-free = not-true (hasLoop (S .graph)) (l .0);
+      few-paths = p .0;
+      some-node = omega arith;
+      nodes = omega arith;
+      edges = omega arith;
+      attributes = omega arith;
+      equations = omega arith;
+      kind = every-at (k .kinds-small) (record { node = 0; kind = 0 }) (omega arith);
+      left = λ q i. every-in (k .sides-short) i .0;
+      right = λ q i. every-in (k .sides-short) i .1;
+    })
+
+-- ---- mappings
+pub record MappingFacts (S T : Schema) (F : Mapping) : Type 0 where
+  pub nodes : length (F .nodes) ≡ S .graph .nodes
+  pub edges : length (F .edges) ≡ length (S .graph .edges)
+  pub attributes : length (F .attributes) ≡ length (S .attributes)
+  pub fits : imagesFit S T F ≡ true
+  pub keeps : keepsEquations S T F ≡ true
+  pub short : (e : ℕ) → length (edgeImage F e) ≤ 15
+
+record MappingRead (S : Schema) (F : Mapping) : Type 0 where
+  nodes : length (F .nodes) ≡ S .graph .nodes
+  edges : length (F .edges) ≡ length (S .graph .edges)
+  attributes : length (F .attributes) ≡ length (S .attributes)
+  short : Every (λ es. length es ≤ 15) (F .edges)
+
+gives-mapping : (S : Schema) → Gives (readMapping S) (MappingRead S)
+gives-mapping S =
+    gives-bind (gives-times (S .graph .nodes) (gives-field 4)) (λ ns n.
+    gives-bind (gives-times (length (S .graph .edges)) gives-edges) (λ es e.
+    gives-bind (gives-times (length (S .attributes)) (gives-field 4)) (λ as′ a.
+    gives-bind gives-finish (λ _ _.
+    gives-give (record { nodes = n .0; edges = e .0; attributes = a .0; short = e .1 })))))
+
+pub mapping-facts : (S T : Schema) (s : List ℕ) {F : Mapping} → judgeMapping S T s ≡ sound F → MappingFacts S T F
+mapping-facts S T s e =
+    let r = bind-sound (onSheet (readMapping S) s) _ e in
+    let f = ensure-sound (imagesFit S T (r .0)) 7 _ (r .2) in
+    let k = ensure-sound (keepsEquations S T (r .0)) 8 _ (f .1) in
+    let g = given (gives-mapping S) s (r .1) in
+    subst (MappingFacts S T) (sound-same (k .1)) (record {
+      nodes = g .nodes;
+      edges = g .edges;
+      attributes = g .attributes;
+      fits = f .0;
+      keeps = k .0;
+      short = every-at (g .short) [] (omega arith);
+    })
+
+-- ---- instances
+
+-- each list is as long as the schema and the counts say
+pub record Shaped (S : Schema) (I : Instance) : Type 0 where
+  pub tables : length (I .counts) ≡ S .graph .nodes
+  pub edges : length (I .links) ≡ length (S .graph .edges)
+  pub attributes : length (I .values) ≡ length (S .attributes)
+  pub links : (e : ℕ) → e < length (S .graph .edges) → length (getD (I .links) e []) ≡ count I (source (S .graph) e)
+  pub values : (a : ℕ) → a < length (S .attributes) → length (column I a) ≡ count I (attributeAt S a .node)
+
+-- each number fits its field
+pub record FitsFields (I : Instance) : Type 0 where
+  pub count-below : (c : ℕ) → count I c < 2 ^ 10
+  pub link-below : (e r : ℕ) → link I e r < 2 ^ 9
+  pub value-below : (a r : ℕ) → value I a r < 2 ^ 32
+
+pub record InstanceFacts (S : Schema) (I : Instance) : Type 0 where
+  pub shaped : Shaped S I
+  pub fits-fields : FitsFields I
+  pub few-rows : sumOf (I .counts) ≤ maxRows
+  pub links : linksInRange S I ≡ true
+  pub values : valuesInRange kinds S I ≡ true
+  pub equations : obeysEquations S I ≡ true
+
+record InstanceRead (S : Schema) (I : Instance) : Type 0 where
+  shaped : Shaped S I
+  fits-fields : FitsFields I
+  few-rows : sumOf (I .counts) ≤ maxRows
+
+gives-instance : (S : Schema) → Gives (readInstance S) (InstanceRead S)
+gives-instance S =
+    gives-bind (gives-times (S .graph .nodes) (gives-field 10)) (λ counts n.
+    gives-bind (gives-ensure (leb (sumOf counts) maxRows) 3) (λ _ few.
+    gives-bind (gives-inTurn (λ e. gives-times (getD counts (e .source) 0) (gives-field 9)) (S .graph .edges)) (λ ls l.
+    gives-bind (gives-inTurn (λ a. gives-times (getD counts (a .node) 0) (gives-field 32)) (S .attributes)) (λ vs v.
+    gives-bind gives-finish (λ _ _.
+    gives-give (record {
+      shaped = record {
+        tables = n .0;
+        edges = pointwise-length l;
+        attributes = pointwise-length v;
+        links = λ e i. pointwise-at l (record { source = 0; target = 0 }) [] e i .0;
+        values = λ a i. pointwise-at v (record { node = 0; kind = 0 }) [] a i .0;
+      };
+      fits-fields = record {
+        count-below = every-at (n .1) 0 (omega arith);
+        link-below = λ e r. every-at (every-at (pointwise-every (λ x y h. h .1) l) [] none e) 0 (omega arith) r;
+        value-below = λ a r. every-at (every-at (pointwise-every (λ x y h. h .1) v) [] none a) 0 (omega arith) r;
+      };
+      few-rows = leb-true (sumOf counts) maxRows few;
+    }))))))
+
+module _ (S : Schema) (s : List ℕ) where
+  instance-passed : {I : Instance} → judgeInstance S s ≡ sound I → (onSheet (readInstance S) s ≡ sound I) × (linksInRange S I ≡ true) × (valuesInRange kinds S I ≡ true) × (obeysEquations S I ≡ true)
+  instance-passed e =
+      let r = bind-sound (onSheet (readInstance S) s) _ e in
+      let l = ensure-sound (linksInRange S (r .0)) 9 _ (r .2) in
+      let v = ensure-sound (valuesInRange kinds S (r .0)) 10 _ (l .1) in
+      let q = ensure-sound (obeysEquations S (r .0)) 11 _ (v .1) in
+      rw (← sound-same (q .1)) (r .1, l .0, v .0, q .0)
+
+  pub instance-read : {I : Instance} → judgeInstance S s ≡ sound I → onSheet (readInstance S) s ≡ sound I
+  instance-read e = instance-passed e .0
+
+  pub instance-facts : {I : Instance} → judgeInstance S s ≡ sound I → InstanceFacts S I
+  instance-facts e =
+      let t = instance-passed e in
+      let g = given (gives-instance S) s (t .0) in
+      record { shaped = g .shaped; fits-fields = g .fits-fields; few-rows = g .few-rows; links = t .1; values = t .2; equations = t .3 }
+
+-- ---- matchings
+pub record MatchingFacts (S : Schema) (A B : Instance) (l : List ℕ) : Type 0 where
+  pub whole : length l ≡ sumOf (A .counts)
+  pub below : (i : ℕ) → getD l i 0 < 2 ^ 9
+  pub is-matching : isMatching S A B l ≡ true
+
+gives-matching : (A : Instance) → Gives (readMatching A) (λ l. (length l ≡ sumOf (A .counts)) × Every (λ v. v < 2 ^ 9) l)
+gives-matching A = gives-bind (gives-times (sumOf (A .counts)) (gives-field 9)) (λ l h. gives-bind gives-finish (λ _ _. gives-give h))
+
+module _ (S : Schema) (A B : Instance) (s : List ℕ) where
+  matching-passed : {l : List ℕ} → judgeMatching S A B s ≡ sound l → (onSheet (readMatching A) s ≡ sound l) × (isMatching S A B l ≡ true)
+  matching-passed e =
+      let r = bind-sound (onSheet (readMatching A) s) _ e in
+      let m = ensure-sound (isMatching S A B (r .0)) 17 _ (r .2) in
+      rw (← sound-same (m .1)) (r .1, m .0)
+
+  pub matching-read : {l : List ℕ} → judgeMatching S A B s ≡ sound l → onSheet (readMatching A) s ≡ sound l
+  matching-read e = matching-passed e .0
+
+  pub matching-facts : {l : List ℕ} → judgeMatching S A B s ≡ sound l → MatchingFacts S A B l
+  matching-facts e =
+      let t = matching-passed e in
+      let g = given (gives-matching A) s (t .0) in
+      record { whole = g .0; below = every-at (g .1) 0 (omega arith); is-matching = t .1 }

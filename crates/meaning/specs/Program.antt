@@ -1,0 +1,73 @@
+-- The push program: what it prints, of what it reads (document 01, 'Runs to check against').
+use Prim.Native.Nat.{ℕ, zero, suc, _+_, _*_, _/_, _%_}
+use mathlib.Core.Bool.{true, false}
+use mathlib.Core.List.{List, [], _∷_, _++_, map}
+use lib.ListN.{take, drop}
+use lib.Dec.{ltb}
+use Rattle.meaning.specs.Lists.{upto, concatMap, sumOf}
+use Rattle.meaning.specs.Schema.{Schema, leaving}
+use Rattle.meaning.specs.Formats.{Instance}
+use Rattle.meaning.specs.Views.{rows, link, value}
+use Rattle.meaning.specs.Evenness.{attributesAt}
+use Rattle.meaning.specs.Calls.{Outcome, refused, accepted, Migrated, sigmaTables}
+
+-- ---- input: four sheets, each after its 16-bit byte length, most significant byte first
+
+-- a length of fewer than two bytes counts as 0
+abbrev pub announced : List ℕ → ℕ
+announced [] = 0
+announced (a ∷ []) = 0
+announced (a ∷ b ∷ rest) = 256 * a + b
+
+-- bytes that the input lacks are lacking in the sheet
+abbrev pub firstSheet : List ℕ → List ℕ
+firstSheet input = take (announced input) (drop 2 input)
+
+abbrev pub laterSheets : List ℕ → List ℕ
+laterSheets input = drop (announced input) (drop 2 input)
+
+-- ---- output
+
+-- the decimal digits of n, which has at most fuel + 1
+abbrev pub digitsWithin : ℕ → ℕ → List ℕ
+digitsWithin zero n = (48 + n % 10) ∷ []
+digitsWithin (suc fuel) n = elim (ltb n 10) [ true ↦ (48 + n) ∷ [] | false ↦ digitsWithin fuel (n / 10) ++ ((48 + n % 10) ∷ []) ]
+
+abbrev pub decimal : ℕ → List ℕ
+decimal n = digitsWithin 9 n
+
+-- a line: its parts with one space between them, and a newline
+abbrev pub line : List (List ℕ) → List ℕ
+line [] = 10 ∷ []
+line (w ∷ []) = w ++ (10 ∷ [])
+line (w ∷ v ∷ ws) = w ++ (32 ∷ line (v ∷ ws))
+
+-- the words `tables`, `rows` and `refused`
+abbrev pub wordTables : List ℕ
+wordTables = 116 ∷ 97 ∷ 98 ∷ 108 ∷ 101 ∷ 115 ∷ []
+
+abbrev pub wordRows : List ℕ
+wordRows = 114 ∷ 111 ∷ 119 ∷ 115 ∷ []
+
+abbrev pub wordRefused : List ℕ
+wordRefused = 114 ∷ 101 ∷ 102 ∷ 117 ∷ 115 ∷ 101 ∷ 100 ∷ []
+
+-- a row: table, row, link targets, values
+abbrev pub rowLine : Schema → Instance → ℕ → ℕ → List ℕ
+rowLine T J d r = line (map decimal (d ∷ r ∷ (map (λ e. link J e r) (leaving (T .graph) d) ++ map (λ b. value J b r) (attributesAt T d))))
+
+abbrev pub printed : Migrated → List ℕ
+printed m =
+    line (wordTables ∷ decimal (m .schema .graph .nodes) ∷ wordRows ∷ decimal (sumOf (m .tables .counts)) ∷ []) ++
+    concatMap (λ d. concatMap (rowLine (m .schema) (m .tables) d) (rows (m .tables) d)) (upto (m .schema .graph .nodes))
+
+abbrev pub shown : Outcome Migrated → List ℕ
+shown (refused n place) = line (wordRefused ∷ decimal n ∷ decimal place ∷ [])
+shown (accepted m) = printed m
+
+abbrev pub pushRest : List ℕ → List ℕ → List ℕ → List ℕ
+pushRest s t input = shown (sigmaTables s t (firstSheet input) (firstSheet (laterSheets input)))
+
+-- the sheets S, T, mapping and run; bytes after the fourth sheet are not read
+abbrev pub push : List ℕ → List ℕ
+push input = pushRest (firstSheet input) (firstSheet (laterSheets input)) (laterSheets (laterSheets input))

@@ -1,0 +1,10 @@
+pub mod Numbering
+pub mod Schema
+pub mod Order
+pub mod Instance
+pub mod Mapping
+pub mod Sigma
+pub mod Family
+pub mod Pi
+pub mod Matching
+pub mod Transposition
