@@ -192,17 +192,17 @@ pub instance-judged-sheet : (S : Schema) (s : List ℕ) {I : Instance} → Bytes
 instance-judged-sheet S s {I} b e = instance-read-sheet S s b (instance-read S s e)
 
 -- ---- byte lengths
-width-fields : (w : ℕ) (l : List ℕ) → totalWidth (fieldsOf w l) ≡ w * length l
+pub fieldsOf-width : (w : ℕ) (l : List ℕ) → totalWidth (fieldsOf w l) ≡ w * length l
 unfolding totalWidth
-width-fields w [] = omega arith
-width-fields w (v ∷ l) = let h = width-fields w l in omega (arith, mul-suc w (length l))
+fieldsOf-width w [] = omega arith
+fieldsOf-width w (v ∷ l) = let h = fieldsOf-width w l in omega (arith, mul-suc w (length l))
 
 width-lists : (w : ℕ) (ls : List (List ℕ)) → totalWidth (concatMap (fieldsOf w) ls) ≡ w * sumOf (map length ls)
 unfolding totalWidth
 width-lists w [] = omega arith
 width-lists w (l ∷ ls) =
     let h = width-lists w ls in
-    let k = width-fields w l in
+    let k = fieldsOf-width w l in
     totalWidth-append (fieldsOf w l) (concatMap (fieldsOf w) ls) ∙ omega (arith, mul-add w (length l) (sumOf (map length ls)))
 
 pub instance-sheet-length : (I : Instance) → length (instanceSheet I) ≡ bytesFor (10 * length (I .counts) + 9 * sumOf (map length (I .links)) + 32 * sumOf (map length (I .values)))
@@ -211,10 +211,10 @@ instance-sheet-length I =
     let b = concatMap (fieldsOf 9) (I .links) in
     let c = concatMap (fieldsOf 32) (I .values) in
     length-pack (a ++ b ++ c)
-    ∙ ap bytesFor (omega (arith, totalWidth-append (a ++ b) c, totalWidth-append a b, width-fields 10 (I .counts), width-lists 9 (I .links), width-lists 32 (I .values)))
+    ∙ ap bytesFor (omega (arith, totalWidth-append (a ++ b) c, totalWidth-append a b, fieldsOf-width 10 (I .counts), width-lists 9 (I .links), width-lists 32 (I .values)))
 
 pub matching-sheet-length : (l : List ℕ) → length (matchingSheet l) ≡ bytesFor (9 * length l)
-matching-sheet-length l = length-pack (fieldsOf 9 l) ∙ ap bytesFor (width-fields 9 l)
+matching-sheet-length l = length-pack (fieldsOf 9 l) ∙ ap bytesFor (fieldsOf-width 9 l)
 
 sum-below : (b : ℕ) (ls : List (List ℕ)) → ((i : ℕ) → length (getD ls i []) ≤ b) → sumOf (map length ls) ≤ b * length ls
 sum-below b [] h = omega arith

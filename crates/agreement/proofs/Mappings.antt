@@ -1,0 +1,148 @@
+-- Tests 7 and 8 decide the theory's mappings.
+use Prim.Native.Nat.{ℕ, _<_}
+use mathlib.Core.Path.{_≡_, sym, subst}
+use mathlib.Core.Bool.{true, _&&_}
+use mathlib.Core.List.{List, [], _∷_}
+use mathlib.Core.Logic.{_↔_}
+use lib.ListN.{length}
+use lib.Dec.{ltb, eqb}
+use borrow.Author.Tests.{ltb-true, lt-ltb, eqb-true, eq-eqb}
+use Rattle.theory.specs.Schema.{IsPath, Chain, endpoint}
+use Rattle.theory.specs.Mapping.{IsMapping, image}
+use Rattle.theory.proofs.Schema.{path-append}
+use Rattle.theory.proofs.Mapping.{image-path}
+use Rattle.meaning.specs.Lists.{upto, all}
+use Rattle.meaning.specs.Schema.{path, Equation, Schema, source, target, attributeAt, joins}
+use Rattle.meaning.specs.PathEquality.{equal}
+use Rattle.meaning.specs.Formats.{Mapping}
+use Rattle.meaning.specs.Views.{IsListed, listed, schemaOf, nodeImage, edgeImage, attributeImage, pathImage, mappingOf}
+use Rattle.meaning.specs.Sheet.{sound}
+use Rattle.meaning.specs.Judge.{judgeMapping, edgeImageFits, attributeImageFits, imagesFit, keepsEquations}
+use Rattle.meaning.proofs.Tabulate.{and-both}
+use Rattle.meaning.proofs.Lists.{and-intro, all-in, all-of, all-upto, upto-all}
+use Rattle.agreement.proofs.Paths.{WellFormed, schema-is, same-starts, path-iff}
+use Rattle.agreement.proofs.Classes.{equal-iff}
+use Rattle.meaning.proofs.Facts.{SchemaFacts, mapping-facts}
+use Rattle.meaning.proofs.Lists.{all-places, places-all}
+
+module _ (S T : Schema) (F : Mapping) (s : WellFormed S) (t : WellFormed T) (nodes : length (F .nodes) ≡ S .graph .nodes) where
+  -- a path that joins up, from a node
+  joins-path : (n : ℕ) (p : List ℕ) → n < T .graph .nodes → joins (T .graph) n p ≡ true → IsPath (schemaOf T) n p
+  joins-path n p h e = path-iff T (t .fits) n p .0 (and-intro (lt-ltb n (T .graph .nodes) h) e)
+
+  path-joins : (n : ℕ) (p : List ℕ) → IsPath (schemaOf T) n p → joins (T .graph) n p ≡ true
+  path-joins n p h = and-both (ltb n (T .graph .nodes)) (joins (T .graph) n p) (path-iff T (t .fits) n p .1 h) .1
+
+  -- ---- what test 7 gives
+  record Fits : Type 0 where
+    node-in : (c : ℕ) → c < S .graph .nodes → nodeImage F c < T .graph .nodes
+    edge-fits : (e : ℕ) → e < length (S .graph .edges) → edgeImageFits S T F e ≡ true
+    attribute-fits : (a : ℕ) → a < length (S .attributes) → attributeImageFits S T F a ≡ true
+
+  fits : imagesFit S T F ≡ true → Fits
+  fits h =
+      let n = all (λ d. ltb d (T .graph .nodes)) (F .nodes) in
+      let e = all (edgeImageFits S T F) (upto (length (S .graph .edges))) in
+      let a = all (attributeImageFits S T F) (upto (length (S .attributes))) in
+      let u = and-both (n && e) a h in
+      let v = and-both n e (u .0) in
+      record {
+        node-in = λ c l. ltb-true (nodeImage F c) (T .graph .nodes) (all-places (λ d. ltb d (T .graph .nodes)) (F .nodes) 0 (v .0) c (rw nodes l));
+        edge-fits = upto-all (edgeImageFits S T F) (length (S .graph .edges)) (v .1);
+        attribute-fits = upto-all (attributeImageFits S T F) (length (S .attributes)) (u .1);
+      }
+
+  module _ (f : Fits) where
+    edge-path : (e : ℕ) → e < length (S .graph .edges) → IsPath (schemaOf T) (nodeImage F (source (S .graph) e)) (edgeImage F e)
+    edge-path e l =
+        let n = nodeImage F (source (S .graph) e) in
+        let u = and-both (joins (T .graph) n (edgeImage F e)) (eqb (endpoint (target (T .graph)) n (edgeImage F e)) (nodeImage F (target (S .graph) e))) (f .edge-fits e l) in
+        joins-path n (edgeImage F e) (f .node-in (source (S .graph) e) (schema-is S (s .fits) .src-in e l)) (u .0)
+
+    edge-end : (e : ℕ) → e < length (S .graph .edges) → endpoint (target (T .graph)) (nodeImage F (source (S .graph) e)) (edgeImage F e) ≡ nodeImage F (target (S .graph) e)
+    edge-end e l =
+        let n = nodeImage F (source (S .graph) e) in
+        let u = and-both (joins (T .graph) n (edgeImage F e)) (eqb (endpoint (target (T .graph)) n (edgeImage F e)) (nodeImage F (target (S .graph) e))) (f .edge-fits e l) in
+        eqb-true (endpoint (target (T .graph)) n (edgeImage F e)) (nodeImage F (target (S .graph) e)) (u .1)
+
+    path-path : (n : ℕ) (p : List ℕ) → IsPath (schemaOf S) n p → IsPath (schemaOf T) (nodeImage F n) (image (edgeImage F) p)
+    path-path n [] h = f .node-in n h
+    path-path n (e ∷ p) h =
+        let a : IsPath (schemaOf T) (nodeImage F n) (edgeImage F e) = rw (h .1) at (edge-path e (h .0)) in
+        let d : endpoint (target (T .graph)) (nodeImage F n) (edgeImage F e) ≡ nodeImage F (target (S .graph) e) = rw (h .1) at (edge-end e (h .0)) in
+        path-append (schemaOf T) (nodeImage F n) (edgeImage F e) (image (edgeImage F) p) a (rw d (path-path (target (S .graph) e) p (h .2)))
+
+    keeps : keepsEquations S T F ≡ true → (n : ℕ) (a b : List ℕ) → IsListed S n a b → Chain (schemaOf T) (nodeImage F n) (image (edgeImage F) a) (image (edgeImage F) b)
+    keeps h n a b (listed {q} m) =
+        let r = schema-is S (s .fits) in
+        let e : equal T (pathImage F (q .left)) (pathImage F (q .right)) ≡ true = all-of (λ (q : Equation). equal T (pathImage F (q .left)) (pathImage F (q .right))) (S .equations) h m in
+        let e′ : equal T (path (nodeImage F n) (image (edgeImage F) a)) (path (nodeImage F n) (image (edgeImage F) b)) ≡ true =
+        subst (λ (c : ℕ). equal T (pathImage F (q .left)) (path (nodeImage F c) (image (edgeImage F) b)) ≡ true) (sym (same-starts S (s .fits) q m)) e
+        in
+        equal-iff T t (nodeImage F n) (image (edgeImage F) a) (image (edgeImage F) b) (path-path n a (r .left n a b (listed m))) (path-path n b (r .right n a b (listed m))) .0 e′
+
+    record Imaged (a : ℕ) : Type 0 where
+      exists : attributeImage F a < length (T .attributes)
+      kind : attributeAt T (attributeImage F a) .kind ≡ attributeAt S a .kind
+      home : attributeAt T (attributeImage F a) .node ≡ nodeImage F (attributeAt S a .node)
+
+    imaged : (a : ℕ) → a < length (S .attributes) → Imaged a
+    imaged a l =
+        let b = attributeImage F a in
+        let exists = ltb b (length (T .attributes)) in
+        let kind = eqb (attributeAt T b .kind) (attributeAt S a .kind) in
+        let u = and-both (exists && kind) (eqb (attributeAt T b .node) (nodeImage F (attributeAt S a .node))) (f .attribute-fits a l) in
+        let v = and-both exists kind (u .0) in
+        record { exists = ltb-true b (length (T .attributes)) (v .0); kind = eqb-true (attributeAt T b .kind) (attributeAt S a .kind) (v .1); home = eqb-true (attributeAt T b .node) (nodeImage F (attributeAt S a .node)) (u .1) }
+
+  pub mapping-is : imagesFit S T F ≡ true → keepsEquations S T F ≡ true → IsMapping (mappingOf S T F)
+  mapping-is h k =
+      let f = fits h in
+      record {
+        S-is = schema-is S (s .fits);
+        T-is = schema-is T (t .fits);
+        node-in = f .node-in;
+        edge-path = edge-path f;
+        edge-end = edge-end f;
+        equation = keeps f k;
+        attribute-in = λ a l. imaged f a l .exists;
+        attribute-home = λ a l. imaged f a l .home;
+        attribute-kind = λ a l. imaged f a l .kind;
+      }
+
+  module _ (is : IsMapping (mappingOf S T F)) where
+    pub images-fit : imagesFit S T F ≡ true
+    images-fit =
+        and-intro (and-intro
+        (places-all (λ d. ltb d (T .graph .nodes)) (F .nodes) 0 (λ c l. lt-ltb (nodeImage F c) (T .graph .nodes) (is .node-in c (rw nodes at l))))
+        (all-upto (edgeImageFits S T F) (length (S .graph .edges)) (λ e l.
+        let n = nodeImage F (source (S .graph) e) in
+        and-intro (path-joins n (edgeImage F e) (is .edge-path e l)) (eq-eqb (endpoint (target (T .graph)) n (edgeImage F e)) (nodeImage F (target (S .graph) e)) (is .edge-end e l)))))
+        (all-upto (attributeImageFits S T F) (length (S .attributes)) (λ a l.
+        let b = attributeImage F a in
+        and-intro (and-intro (lt-ltb b (length (T .attributes)) (is .attribute-in a l)) (eq-eqb (attributeAt T b .kind) (attributeAt S a .kind) (is .attribute-kind a l)))
+        (eq-eqb (attributeAt T b .node) (nodeImage F (attributeAt S a .node)) (is .attribute-home a l))))
+
+    pub equations-kept : keepsEquations S T F ≡ true
+    equations-kept =
+        all-in (λ (q : Equation). equal T (pathImage F (q .left)) (pathImage F (q .right))) (S .equations) (λ q m.
+        let n = q .left .start in
+        let a = q .left .edges in
+        let b = q .right .edges in
+        let q-is : IsListed S n a b = listed m in
+        let e : equal T (path (nodeImage F n) (image (edgeImage F) a)) (path (nodeImage F n) (image (edgeImage F) b)) ≡ true =
+        equal-iff T t (nodeImage F n) (image (edgeImage F) a) (image (edgeImage F) b) (image-path is n a (is .S-is .left n a b q-is)) (image-path is n b (is .S-is .right n a b q-is)) .1 (is .equation n a b q-is)
+        in
+        subst (λ (c : ℕ). equal T (pathImage F (q .left)) (path (nodeImage F c) (image (edgeImage F) b)) ≡ true) (same-starts S (s .fits) q m) e)
+
+  pub mapping-iff : ((imagesFit S T F ≡ true) × (keepsEquations S T F ≡ true)) ↔ IsMapping (mappingOf S T F)
+  mapping-iff = (λ h. mapping-is (h .0) (h .1), λ is. (images-fit is, equations-kept is))
+
+-- ---- of accepted sheets
+pub schema-well-formed : {S : Schema} → SchemaFacts S → WellFormed S
+schema-well-formed f = record { fits = f .well-formed; acyclic = f .loop-free }
+
+pub mapping-judged : (S T : Schema) → SchemaFacts S → SchemaFacts T → (f : List ℕ) {F : Mapping} → judgeMapping S T f ≡ sound F → IsMapping (mappingOf S T F)
+mapping-judged S T s t f {F} e =
+    let m = mapping-facts S T f e in
+    mapping-is S T F (schema-well-formed s) (schema-well-formed t) (m .nodes) (m .fits) (m .keeps)
