@@ -139,15 +139,23 @@ pub fn tail_ok(s: &[u8], at: usize) -> bool
     wide(s[n]) % bound(8 - k) == 0
 }
 
+// 2 to the power k, for a place in a byte: an entry of the table at an index that is not constant costs a copy of the table.
+fn weight(k: usize) -> u64
+    requires { ⌜ k ≤ 8 ⌝ }
+    ensures { λ r. ⌜ r ≡ 2 ^ k ⌝ }
+{
+    1 << k
+}
+
 // The byte x with its w bits of weight 2 ^ k and above replaced by the w lowest of v.
 fn with_bits(x: u8, w: usize, k: usize, v: u64) -> u8
     requires { ⌜ w + k ≤ 8 ⌝ }
     ensures { λ r. ⌜ r ≡ withBits x w k v ⌝ }
 {
     let n = wide(x);
-    let top = bound(w + k);
-    let low = bound(k);
-    let part = v % bound(w);
+    let top = weight(w + k);
+    let low = weight(k);
+    let part = v % weight(w);
     (n / top * top + part * low + n % low) as u8
 }
 

@@ -7,11 +7,11 @@ use Rattle.meaning.specs.Lists.{concatMap, upto}
 use Rattle.meaning.specs.Schema.{Graph, Path, path, target, leaving, edgeLists, pathsOfLength, end}
 
 module _ {A B : Type 0} where
-  concatMap-same : (f g : A → List B) → ((x : A) → f x ≡ g x) → (l : List A) → concatMap f l ≡ concatMap g l
+  pub concatMap-same : (f g : A → List B) → ((x : A) → f x ≡ g x) → (l : List A) → concatMap f l ≡ concatMap g l
   concatMap-same f g e [] = refl
   concatMap-same f g e (x ∷ l) = rw (e x, concatMap-same f g e l)
 
-  concatMap-append : (f : A → List B) (l m : List A) → concatMap f (l ++ m) ≡ concatMap f l ++ concatMap f m
+  pub concatMap-append : (f : A → List B) (l m : List A) → concatMap f (l ++ m) ≡ concatMap f l ++ concatMap f m
   concatMap-append f [] m = refl
   concatMap-append f (x ∷ l) m = rw (concatMap-append f l m, append-assoc)
 
@@ -29,23 +29,23 @@ module _ {A B C : Type 0} where
   concatMap-concatMap g f [] = refl
   concatMap-concatMap g f (x ∷ l) = concatMap-append g (f x) (concatMap f l) ∙ ap (λ (m : List C). concatMap g (f x) ++ m) (concatMap-concatMap g f l)
 
-  concatMap-map : (g : B → List C) (f : A → B) (l : List A) → concatMap g (map f l) ≡ concatMap (λ x. g (f x)) l
+  pub concatMap-map : (g : B → List C) (f : A → B) (l : List A) → concatMap g (map f l) ≡ concatMap (λ x. g (f x)) l
   concatMap-map g f [] = refl
   concatMap-map g f (x ∷ l) = ap (λ (m : List C). g (f x) ++ m) (concatMap-map g f l)
 
-  map-concatMap : (g : B → C) (f : A → List B) (l : List A) → map g (concatMap f l) ≡ concatMap (λ x. map g (f x)) l
+  pub map-concatMap : (g : B → C) (f : A → List B) (l : List A) → map g (concatMap f l) ≡ concatMap (λ x. map g (f x)) l
   map-concatMap g f [] = refl
   map-concatMap g f (x ∷ l) = map-both g (f x) (concatMap f l) ∙ ap (λ (m : List C). map g (f x) ++ m) (map-concatMap g f l)
 
-  map-twice : (g : B → C) (f : A → B) (l : List A) → map g (map f l) ≡ map (λ x. g (f x)) l
+  pub map-twice : (g : B → C) (f : A → B) (l : List A) → map g (map f l) ≡ map (λ x. g (f x)) l
   map-twice g f [] = refl
   map-twice g f (x ∷ l) = ap (λ (m : List C). g (f x) ∷ m) (map-twice g f l)
 
 module _ (G : Graph) where
-  abbrev longer : ℕ → List ℕ → List (List ℕ)
+  abbrev pub longer : ℕ → List ℕ → List (List ℕ)
   longer n es = map (λ e. es ++ (e ∷ [])) (leaving G (endpoint (target G) n es))
 
-  edgeLists-longer : (k n : ℕ) → edgeLists G (suc k) n ≡ concatMap (longer n) (edgeLists G k n)
+  pub edgeLists-longer : (k n : ℕ) → edgeLists G (suc k) n ≡ concatMap (longer n) (edgeLists G k n)
   edgeLists-longer zero n = concatMap-one (λ e. e ∷ []) (leaving G n) ∙ sym (append-nil (longer n []))
   edgeLists-longer (suc k) n =
       concatMap-same _ _ (λ e.

@@ -1,0 +1,114 @@
+-- `schema::decode::read_path` meets its contract, by how far the bits go.
+use Prim.Native.Nat.{_+_, _*_, _≤_, _<_}
+use mathlib.Core.Path.{sym, _∙_}
+use native.Mathlib.Omega.{arith}
+use borrow.Author.Tests.{ltb-true, ltb-false}
+use lib.ListN.{length}
+use Rattle.bits.proofs.Reading.{field-below}
+use Rattle.meaning.proofs.Tabulate.{tabulate-same}
+use Rattle.meaning.proofs.Formats.{path-short, path-cut, path-read}
+use borrow.Author.Needs.{needs}
+use Rattle.schema.proofs.decode.read_path.Statement.{statement}
+use Rattle.schema.proofs.decode.read_path.Tie as tie
+
+empty-requires : tie.Need-empty-requires
+empty-requires c κs = search needs
+
+lacks-room-requires : tie.Need-lacks-room-requires
+lacks-room-requires c κs = search needs
+
+returns : tie.Need-returns
+returns c =
+    let a = c .before .before .before .before in
+    let h : 8 * length (a .args .s .now) < a .args .at + 8 = ltb-true _ _ (sym (c .before .lacks-room .ensures) ∙ c .if1 .taken) in
+    record { says = sym (path-short (a .args .s .now) (a .args .at) (a .pre .inside) h); inside = a .pre .inside; near = omega arith; short = rw (c .before .before .empty .ensures) (omega arith) }
+
+small-requires : tie.Need-small-requires
+small-requires c κs =
+    let a = c .before .before .before .before in
+    let h : a .args .at + 8 ≤ 8 * length (a .args .s .now) = ltb-false _ _ (sym (c .before .lacks-room .ensures) ∙ c .if1 .left) in
+    omega arith
+
+add-small : tie.Need-add-small
+add-small c = search needs
+
+small-requires-2 : tie.Need-small-requires-2
+small-requires-2 c κs =
+    let a = c .before .before .before .before .before in
+    let h : a .args .at + 8 ≤ 8 * length (a .args .s .now) = ltb-false _ _ (sym (c .before .before .lacks-room .ensures) ∙ c .before .if1 .left) in
+    omega arith
+
+cast-n : tie.Need-cast-n
+cast-n c = search needs
+
+add-lacks-room : tie.Need-add-lacks-room
+add-lacks-room c = search needs
+
+mul-lacks-room : tie.Need-mul-lacks-room
+mul-lacks-room c = search needs
+
+lacks-room-requires-2 : tie.Need-lacks-room-requires-2
+lacks-room-requires-2 c κs = search needs
+
+returns-2 : tie.Need-returns-2
+returns-2 c =
+    let a = c .before .before .before .before .before .before .before .before in
+    let k = c .before .before .small2 .ensures in
+    let g : a .args .at + 8 ≤ 8 * length (a .args .s .now) = ltb-false _ _ (sym (c .before .before .before .before .before .lacks-room .ensures) ∙ c .before .before .before .before .if1 .left) in
+    let h : 8 * length (a .args .s .now) < a .args .at + 8 + 5 * c .before .before .small2 .result = ltb-true _ _ (sym (c .before .lacks-room2 .ensures) ∙ c .if2 .taken) in
+    record { says = sym (path-cut (a .args .s .now) (a .args .at) g (omega arith)); inside = a .pre .inside; near = omega arith; short = rw (c .before .before .before .before .before .before .empty .ensures) (omega arith) }
+
+add-column : tie.Need-add-column
+add-column c = search needs
+
+column-requires : tie.Need-column-requires
+column-requires c κs =
+    let a = c .before .before .before .before .before .before .before .before in
+    let k = c .before .before .small2 .ensures in
+    let b = field-below (a .args .s .now) (a .args .at + 4) 4 in
+    let h : a .args .at + 8 + 5 * c .before .before .small2 .result ≤ 8 * length (a .args .s .now) = ltb-false _ _ (sym (c .before .lacks-room2 .ensures) ∙ c .if2 .left) in
+    record { few = omega arith; narrow = omega arith; counted = let g = a .pre .counted in omega arith; within = λ i l. omega arith }
+
+add-t12 : tie.Need-add-t12
+add-t12 c = search needs
+
+mul-t10 : tie.Need-mul-t10
+mul-t10 c = search needs
+
+add-t13 : tie.Need-add-t13
+add-t13 c = search needs
+
+returns-3 : tie.Need-returns-3
+returns-3 c =
+    let a = c .before .before .before .before .before .before .before .before .before in
+    let k = c .before .before .before .small2 .ensures in
+    let b = field-below (a .args .s .now) (a .args .at + 4) 4 in
+    let h : a .args .at + 8 + 5 * c .before .before .before .small2 .result ≤ 8 * length (a .args .s .now) = ltb-false _ _ (sym (c .before .before .lacks-room2 .ensures) ∙ c .before .if2 .left) in
+    record {
+      says = rw (tabulate-same (c .before .before .before .small2 .result) (c .column .ensures .each), k, c .before .before .before .before .small .ensures) (sym (path-read (a .args .s .now) (a .args .at) (omega arith)));
+      inside = h;
+      near = omega arith;
+      short = omega arith;
+    }
+
+pub read-path-spec : {M : Type 1} → statement M
+read-path-spec =
+    tie.close
+    (tie.spec
+    empty-requires
+    lacks-room-requires
+    returns
+    small-requires
+    add-small
+    small-requires-2
+    cast-n
+    add-lacks-room
+    mul-lacks-room
+    lacks-room-requires-2
+    returns-2
+    add-column
+    column-requires
+    add-t12
+    mul-t10
+    add-t13
+    returns-3)

@@ -1,0 +1,277 @@
+// What a schema sheet and a path sheet hold, read into structs: refusals 1, 2 and 3.
+use crate::Graph;
+use crate::Path;
+use crate::Schema;
+ghost use mathlib.Core.Path.{_≡_};
+ghost use mathlib.Core.Bool.{true};
+ghost use Prim.Native.Nat.{_+_, _*_, _≤_};
+ghost use lib.ListN.{length};
+ghost use Rattle.bits.specs.Field.{field};
+ghost use Rattle.meaning.specs.Sheet.{onSheet};
+ghost use Rattle.meaning.specs.Formats.{countsInLimits, readSchema};
+ghost use Rattle.meaning.proofs.Formats.{countsIn};
+ghost use Rattle.schema.specs.Decoded.{Block, Column, Near, GraphTaken, PathTaken, EquationTaken, EquationsTaken, countsOf, onBody, Decoded};
+
+// A field of at most 8 bits.
+fn small(s: &[u8], at: usize, width: usize) -> u8
+    requires { ⌜ (width ≤ 8) × (at + width ≤ 8 * length (now s)) ⌝ }
+    ensures { λ r. ⌜ r ≡ field (now (s .entry)) at width ⌝ }
+{
+    bits::read_field(s, at, width) as u8
+}
+
+// n fields, step bits apart.
+fn column(s: &[u8], at: usize, step: usize, width: usize, n: usize) -> [u8; 16]
+    requires { ⌜ Block (now s) at step width n ⌝ }
+    ensures { λ r. ⌜ Column (now (s .entry)) at step width 16 n r ⌝ }
+{
+    let mut out = [0u8; 16];
+    let mut i = 0;
+    let mut p = at;
+    while i < n {
+        out[i] = small(s, p, width);
+        p += step;
+        i += 1;
+    }
+    out
+}
+
+// A path from a position on, or that the bits end before it does.
+pub struct PathRead {
+    pub cut: bool,
+    pub next: usize,
+    pub path: Path,
+}
+
+pub fn read_path(s: &[u8], at: usize) -> PathRead
+    requires { ⌜ Near (now s) at 83 ⌝ }
+    ensures { λ r. ⌜ PathTaken (now (s .entry)) at r ⌝ }
+{
+    let none = Path::empty();
+    if bits::lacks_room(s, at, 8) {
+        return PathRead {
+            cut: true,
+            next: at,
+            path: none,
+        };
+    }
+    let start = small(s, at, 4);
+    let n = small(s, at + 4, 4) as usize;
+    if bits::lacks_room(s, at + 8, 5 * n) {
+        return PathRead {
+            cut: true,
+            next: at,
+            path: none,
+        };
+    }
+    let edges = column(s, at + 8, 5, 5, n);
+    let path = Path {
+        start: start,
+        length: n,
+        edges: edges,
+    };
+    PathRead {
+        cut: false,
+        next: at + 8 + 5 * n,
+        path: path,
+    }
+}
+
+// Two paths, one after the other.
+struct EquationRead {
+    cut: bool,
+    next: usize,
+    left: Path,
+    right: Path,
+}
+
+fn read_equation(s: &[u8], at: usize) -> EquationRead
+    requires { ⌜ Near (now s) at 166 ⌝ }
+    ensures { λ r. ⌜ EquationTaken (now (s .entry)) at r ⌝ }
+{
+    let a = read_path(s, at);
+    let left = a.path;
+    if a.cut {
+        return EquationRead {
+            cut: true,
+            next: at,
+            left: left,
+            right: left,
+        };
+    }
+    let middle = a.next;
+    let b = read_path(s, middle);
+    let right = b.path;
+    if b.cut {
+        return EquationRead {
+            cut: true,
+            next: at,
+            left: left,
+            right: right,
+        };
+    }
+    let next = b.next;
+    EquationRead {
+        cut: false,
+        next: next,
+        left: left,
+        right: right,
+    }
+}
+
+// n equations, one after the other.
+struct EquationsRead {
+    cut: bool,
+    next: usize,
+    left: [Path; Schema::EQUATIONS],
+    right: [Path; Schema::EQUATIONS],
+}
+
+fn read_equations(s: &[u8], at: usize, n: usize) -> EquationsRead
+    requires { ⌜ Near (now s) at (166 * n) × (n ≤ 32) ⌝ }
+    ensures { λ r. ⌜ EquationsTaken (now (s .entry)) at n r ⌝ }
+{
+    let none = Path::empty();
+    let mut left = [none; Schema::EQUATIONS];
+    let mut right = [none; Schema::EQUATIONS];
+    let mut i = 0;
+    let mut p = at;
+    while i < n {
+        let equation = read_equation(s, p);
+        if equation.cut {
+            return EquationsRead {
+                cut: true,
+                next: at,
+                left: left,
+                right: right,
+            };
+        }
+        let a = equation.left;
+        let b = equation.right;
+        left[i] = a;
+        right[i] = b;
+        p = equation.next;
+        i += 1;
+    }
+    EquationsRead {
+        cut: false,
+        next: p,
+        left: left,
+        right: right,
+    }
+}
+
+// The edges, which follow the leading counts.
+fn read_graph(s: &[u8], nodes: usize, edges: usize) -> Graph
+    requires { ⌜ (edges ≤ 32) × (22 + 8 * edges ≤ 8 * length (now s)) ⌝ }
+    ensures { λ r. ⌜ GraphTaken (now (s .entry)) nodes edges r ⌝ }
+{
+    let mut source = [0u8; Schema::EDGES];
+    let mut target = [0u8; Schema::EDGES];
+    let mut i = 0;
+    while i < edges {
+        let p = 22 + 8 * i;
+        source[i] = small(s, p, 4);
+        target[i] = small(s, p + 4, 4);
+        i += 1;
+    }
+    Graph {
+        nodes: nodes,
+        edges: edges,
+        source: source,
+        target: target,
+    }
+}
+
+// The leading counts.
+struct Counts {
+    nodes: usize,
+    edges: usize,
+    attributes: usize,
+    equations: usize,
+}
+
+fn read_counts(s: &[u8]) -> Counts
+    requires { ⌜ 22 ≤ 8 * length (now s) ⌝ }
+    ensures { λ r. ⌜ countsOf r ≡ countsIn (now (s .entry)) ⌝ }
+{
+    let nodes = small(s, 0, 5) as usize;
+    let edges = small(s, 5, 6) as usize;
+    let attributes = small(s, 11, 5) as usize;
+    let equations = small(s, 16, 6) as usize;
+    Counts {
+        nodes: nodes,
+        edges: edges,
+        attributes: attributes,
+        equations: equations,
+    }
+}
+
+// Whether each count is within its limit, and there is a node.
+fn in_limits(c: Counts) -> bool
+    ensures { λ r. ⌜ r ≡ countsInLimits (countsOf c) ⌝ }
+{
+    if c.nodes < 1 {
+        return false;
+    }
+    if c.nodes > Schema::NODES {
+        return false;
+    }
+    if c.edges > Schema::EDGES {
+        return false;
+    }
+    if c.attributes > Schema::ATTRIBUTES {
+        return false;
+    }
+    c.equations <= Schema::EQUATIONS
+}
+
+// What follows the leading counts.
+fn decode_body(s: &[u8], c: Counts) -> Schema
+    requires { ⌜ (22 ≤ 8 * length (now s)) × (countsInLimits (countsOf c) ≡ true) ⌝ }
+    ensures { λ r. ⌜ Decoded r (onBody (countsOf c) (now (s .entry))) ⌝ }
+{
+    let attributes = c.attributes;
+    let middle = 22 + 8 * c.edges;
+    let last = middle + 8 * attributes;
+    if bits::lacks_room(s, 0, last) {
+        return Schema::faulty(1);
+    }
+    let equations = read_equations(s, last, c.equations);
+    if equations.cut {
+        return Schema::faulty(1);
+    }
+    let next = equations.next;
+    if bits::tail_ok(s, next) {
+        let graph = read_graph(s, c.nodes, c.edges);
+        let node = column(s, middle, 8, 4, attributes);
+        let kind = column(s, middle + 4, 8, 4, attributes);
+        let left = equations.left;
+        let right = equations.right;
+        return Schema {
+            fault: 0,
+            graph: graph,
+            attributes: attributes,
+            node: node,
+            kind: kind,
+            equations: c.equations,
+            left: left,
+            right: right,
+        };
+    }
+    Schema::faulty(2)
+}
+
+// What a schema sheet says, or the number with which it is sent back before any test of its sense.
+pub fn decode_schema(s: &[u8]) -> Schema
+    ensures { λ r. ⌜ Decoded r (onSheet readSchema (now (s .entry))) ⌝ }
+{
+    if bits::lacks_room(s, 0, 22) {
+        return Schema::faulty(1);
+    }
+    let c = read_counts(s);
+    if in_limits(c) {
+        return decode_body(s, c);
+    }
+    Schema::faulty(3)
+}

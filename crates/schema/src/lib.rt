@@ -1,0 +1,212 @@
+// Schemas: the judges of a schema sheet and of a path sheet, the table of a schema's paths, and the path question.
+pub mod classes;
+pub mod count;
+pub mod decode;
+pub mod heights;
+pub mod numbers;
+pub mod table;
+pub mod walk;
+pub mod well_formed;
+
+ghost use mathlib.Core.Path.{_≡_};
+ghost use Prim.Native.Nat.{_≤_};
+ghost use Rattle.meaning.specs.Judge.{testSchema, judgeSchema, judgePath};
+ghost use Rattle.meaning.specs.PathEquality.{equal as equalPaths};
+ghost use Rattle.schema.specs.Decoded.{emptyPath, emptySchema, graphOf, pathOf, schemaOf, Limits};
+ghost use Rattle.schema.specs.Judged.{Sound, Says, SoundPath, PathSays};
+ghost use Rattle.schema.specs.Classes.{IsPaths};
+
+// Nodes (tables) and edges (links): all that paths depend on.
+pub struct Graph {
+    pub nodes: usize,
+    pub edges: usize,
+    pub source: [u8; Schema::EDGES],
+    pub target: [u8; Schema::EDGES],
+}
+
+// A path: a start node and edges that join up.
+pub struct Path {
+    pub start: u8,
+    pub length: usize,
+    pub edges: [u8; Path::EDGES],
+}
+
+impl Path {
+    // Room for a path's edges: a length of 4 bits is at most 15.
+    pub const EDGES: usize = 16;
+
+    // The trivial path at node 0.
+    pub fn empty() -> Path
+        ensures { λ r. ⌜ r ≡ emptyPath ⌝ }
+    {
+        Path {
+            start: 0,
+            length: 0,
+            edges: [0u8; Path::EDGES],
+        }
+    }
+}
+
+// What a schema sheet says; fault is 0, or the number with which the sheet is sent back.
+pub struct Schema {
+    pub fault: u8,
+    pub graph: Graph,
+    pub attributes: usize,
+    pub node: [u8; Schema::ATTRIBUTES],
+    pub kind: [u8; Schema::ATTRIBUTES],
+    pub equations: usize,
+    pub left: [Path; Schema::EQUATIONS],
+    pub right: [Path; Schema::EQUATIONS],
+}
+
+impl Schema {
+    pub const NODES: usize = 16;
+
+    pub const EDGES: usize = 32;
+
+    pub const ATTRIBUTES: usize = 16;
+
+    pub const EQUATIONS: usize = 32;
+
+    pub const PATHS: usize = 256;
+
+    // A sheet sent back with a number.
+    pub fn faulty(number: u8) -> Schema
+        ensures { λ r. ⌜ r ≡ emptySchema number ⌝ }
+    {
+        let none = Path::empty();
+        let ends = [0u8; Schema::EDGES];
+        let columns = [0u8; Schema::ATTRIBUTES];
+        let sides = [none; Schema::EQUATIONS];
+        let graph = Graph {
+            nodes: 0,
+            edges: 0,
+            source: ends,
+            target: ends,
+        };
+        Schema {
+            fault: number,
+            graph: graph,
+            attributes: 0,
+            node: columns,
+            kind: columns,
+            equations: 0,
+            left: sides,
+            right: sides,
+        }
+    }
+}
+
+// All paths of a graph, numbered in the paper's order. For each path: its start, its end and its length; the number of the path without its
+// last edge, and that edge; the number of the first path of its class. The paths that follow path i by one edge stand from first[i] on, in
+// the order of the edges; an edge's rank is its place among those that leave its source.
+pub struct Paths {
+    pub count: usize,
+    pub start: [u8; Schema::PATHS],
+    pub end: [u8; Schema::PATHS],
+    pub length: [u8; Schema::PATHS],
+    pub parent: [u8; Schema::PATHS],
+    pub last: [u8; Schema::PATHS],
+    pub class: [u8; Schema::PATHS],
+    pub first: [u16; Schema::PATHS + 1],
+    pub rank: [u8; Schema::EDGES],
+}
+
+// Tests 4, 5 and 6. Where there are too many paths to go over, a loop shows in their counts.
+fn test_schema(t: Schema) -> Schema
+    requires { ⌜ Limits t × (t .fault ≡ 0) ⌝ }
+    ensures { λ r. ⌜ Says r (testSchema (schemaOf t)) ⌝ }
+{
+    if well_formed::is_well_formed(t) {
+        let g = t.graph;
+        let count = count::count_paths(g);
+        if count.paths > Schema::PATHS {
+            if count.looped {
+                return Schema::faulty(5);
+            }
+            return Schema::faulty(6);
+        }
+        if heights::has_loop(g) {
+            return Schema::faulty(5);
+        }
+        return t;
+    }
+    Schema::faulty(4)
+}
+
+// A schema sheet judged: what it says, or the first number that applies to it.
+pub fn judge_schema(s: &[u8]) -> Schema
+    ensures { λ r. ⌜ Says r (judgeSchema (now (s .entry))) ⌝ }
+{
+    let t = decode::decode_schema(s);
+    let fault = t.fault;
+    if fault == 0 {
+        return test_schema(t);
+    }
+    Schema::faulty(fault)
+}
+
+// A path sheet judged: the path, where fault is 0, or the number with which the sheet is sent back.
+pub struct JudgedPath {
+    pub fault: u8,
+    pub path: Path,
+}
+
+pub fn judge_path(g: Graph, s: &[u8]) -> JudgedPath
+    requires { ⌜ g .edges ≤ 32 ⌝ }
+    ensures { λ r. ⌜ PathSays (graphOf g) r (judgePath (graphOf g) (now (s .entry))) ⌝ }
+{
+    let r = decode::read_path(s, 0);
+    let path = r.path;
+    if r.cut {
+        return JudgedPath {
+            fault: 1,
+            path: path,
+        };
+    }
+    let next = r.next;
+    if bits::tail_ok(s, next) {
+        let end = well_formed::follow(g, path);
+        if end.joins {
+            return JudgedPath {
+                fault: 0,
+                path: path,
+            };
+        }
+        return JudgedPath {
+            fault: 4,
+            path: path,
+        };
+    }
+    JudgedPath {
+        fault: 2,
+        path: path,
+    }
+}
+
+// The table of paths of a judged schema, with their classes.
+pub fn path_table(t: Schema) -> Paths
+    requires { ⌜ Sound t ⌝ }
+    ensures { λ r. ⌜ IsPaths (schemaOf t) r ⌝ }
+{
+    let g = t.graph;
+    let count = count::count_paths(g).paths;
+    let mut p = table::fill(g, count);
+    let rank = table::rank_edges(g);
+    p.count = count;
+    p.rank = rank;
+    let class = classes::class_numbers(t, p).of;
+    p.class = class;
+    p
+}
+
+// The path question: whether two paths of a judged schema are equal.
+pub fn equal(t: Schema, a: Path, b: Path) -> bool
+    requires { ⌜ Sound t × SoundPath (t .graph) a × SoundPath (t .graph) b ⌝ }
+    ensures { λ r. ⌜ r ≡ equalPaths (schemaOf t) (pathOf a) (pathOf b) ⌝ }
+{
+    let p = path_table(t);
+    let x = walk::path_number(p, a);
+    let y = walk::path_number(p, b);
+    classes::same_class(&p.class, x, y)
+}
