@@ -13,7 +13,7 @@ ghost use Rattle.meaning.proofs.Formats.{countsIn};
 ghost use Rattle.schema.specs.Decoded.{Block, Column, Near, GraphTaken, PathTaken, EquationTaken, EquationsTaken, countsOf, onBody, Decoded};
 
 // A field of at most 8 bits.
-fn small(s: &[u8], at: usize, width: usize) -> u8
+pub fn small(s: &[u8], at: usize, width: usize) -> u8
     requires { ⌜ (width ≤ 8) × (at + width ≤ 8 * length (now s)) ⌝ }
     ensures { λ r. ⌜ r ≡ field (now (s .entry)) at width ⌝ }
 {
@@ -21,7 +21,7 @@ fn small(s: &[u8], at: usize, width: usize) -> u8
 }
 
 // n fields, step bits apart.
-fn column(s: &[u8], at: usize, step: usize, width: usize, n: usize) -> [u8; 16]
+pub fn column(s: &[u8], at: usize, step: usize, width: usize, n: usize) -> [u8; 16]
     requires { ⌜ Block (now s) at step width n ⌝ }
     ensures { λ r. ⌜ Column (now (s .entry)) at step width 16 n r ⌝ }
 {
