@@ -1,0 +1,183 @@
+// What an instance sheet holds, read into working arrays: refusals 1, 2 and 3.
+use crate::Instance;
+use schema::Schema;
+ghost use mathlib.Core.Path.{_≡_};
+ghost use Prim.Native.Nat.{_+_, _*_, _≤_, _<_};
+ghost use lib.ListN.{length, getD};
+ghost use Rattle.bits.specs.Field.{field, Within};
+ghost use Rattle.meaning.specs.Lists.{sumOf};
+ghost use Rattle.meaning.specs.Sheet.{onSheet, judged};
+ghost use Rattle.meaning.specs.Formats.{readTables, readInstance};
+ghost use Rattle.schema.specs.Decoded.{Near, schemaOf};
+ghost use Rattle.schema.specs.Judged.{Sound};
+ghost use Rattle.instance.specs.Decoded.{firstOf, countsIn, rowsOf, Fields, Stored, Columns, ColumnsTaken, Room, Says};
+
+// A number of 32 bits as an index.
+pub fn wide(x: u32) -> usize
+    ensures { λ r. ⌜ r ≡ x ⌝ }
+{
+    x as usize
+}
+
+// A field of at most 32 bits. The widths of links and values are written out: a constant width is read by far fewer instructions.
+fn number(s: &[u8], at: usize, width: usize) -> u32
+    requires { ⌜ Within (now s) at width ⌝ }
+    ensures { λ r. ⌜ r ≡ field (now (s .entry)) at width ⌝ }
+{
+    if width == 9 {
+        return bits::read_field(s, at, 9) as u32;
+    }
+    if width == 32 {
+        return bits::read_field(s, at, 32) as u32;
+    }
+    bits::read_field(s, at, width) as u32
+}
+
+// n fields of one width, stored from base on.
+pub fn read_column(s: &[u8], at: usize, width: usize, n: usize, out: &mut [u32], base: usize)
+    requires { ⌜ Fields (now s) at width n × (base + n ≤ length (now out)) ⌝ }
+    ensures { λ _. ⌜ Stored (now (s .entry)) at width n base (now (out .entry)) (now (out .exit)) ⌝ }
+{
+    let mut i = 0;
+    let mut p = at;
+    while i < n {
+        out[base + i] = number(s, p, width);
+        p += width;
+        i += 1;
+    }
+}
+
+// The leading counts of n tables.
+fn read_counts(s: &[u8], n: usize) -> [u32; 16]
+    requires { ⌜ (n ≤ 16) × (10 * n ≤ 8 * length (now s)) ⌝ }
+    ensures { λ r. ⌜ firstOf n r ≡ countsIn n (now (s .entry)) ⌝ }
+{
+    let mut counts = [0u32; 16];
+    read_column(s, 0, 10, n, &mut counts, 0);
+    counts
+}
+
+// The rows of the first n tables together.
+pub fn total(counts: &[u32], n: usize) -> usize
+    requires { ⌜ (n ≤ 16) × (n ≤ length (now counts)) ⌝ }
+    ensures { λ r. ⌜ r ≡ sumOf (firstOf n (now (counts .entry))) ⌝ }
+{
+    let mut sum: usize = 0;
+    let mut i = 0;
+    while i < n {
+        sum += wide(counts[i]);
+        i += 1;
+    }
+    sum
+}
+
+// The rows of column k: those of its table.
+pub fn rows_of(home: &[u8], counts: &[u32], k: usize) -> usize
+    requires { ⌜ (k < length (now home)) × (getD (now home) k 0 < length (now counts)) ⌝ }
+    ensures { λ r. ⌜ r ≡ rowsOf (now (home .entry)) (now (counts .entry)) k ⌝ }
+{
+    wide(counts[home[k] as usize])
+}
+
+// Where columns end, or that the bits end before they do.
+pub struct ColumnsRead {
+    pub cut: bool,
+    pub next: usize,
+}
+
+// n columns of fields of one width, one after the other. Column k has as many as the table home[k] has rows, and is stored from 512 * k on.
+fn read_columns(
+    s: &[u8],
+    at: usize,
+    width: usize,
+    n: usize,
+    home: &[u8],
+    counts: &[u32],
+    out: &mut [u32],
+) -> ColumnsRead
+    requires { ⌜ (width ≤ 32) × Near (now s) at (16384 * n) × Columns n (now home) (now counts) × (512 * n ≤ length (now out)) ⌝ }
+    ensures { λ r. ⌜ ColumnsTaken (now (s .entry)) at width n (now (home .entry)) (now (counts .entry)) r (now (out .exit)) ⌝ }
+{
+    let mut k = 0;
+    let mut p = at;
+    while k < n {
+        let rows = rows_of(home, counts, k);
+        if bits::lacks_room(s, p, width * rows) {
+            return ColumnsRead {
+                cut: true,
+                next: at,
+            };
+        }
+        read_column(s, p, width, rows, &mut *out, 512 * k);
+        p += width * rows;
+        k += 1;
+    }
+    ColumnsRead {
+        cut: false,
+        next: p,
+    }
+}
+
+// What follows the leading counts.
+fn decode_tables(
+    schema: Schema,
+    s: &[u8],
+    counts: [u32; 16],
+    links: &mut [u32],
+    values: &mut [u32],
+) -> Instance
+    requires { ⌜ Sound schema × Room (now links) (now values) × (10 * schema .graph .nodes ≤ 8 * length (now s)) × (sumOf (firstOf (schema .graph .nodes) counts) ≤ 512) ⌝ }
+    ensures { λ r. ⌜ Says schema r (now (links .exit)) (now (values .exit)) (judged (readTables (schemaOf schema) (firstOf (schema .graph .nodes) counts) (now (s .entry)) (10 * schema .graph .nodes))) ⌝ }
+{
+    let graph = schema.graph;
+    let source = graph.source;
+    let node = schema.node;
+    let a = read_columns(
+        s,
+        10 * graph.nodes,
+        9,
+        graph.edges,
+        &source,
+        &counts,
+        &mut *links,
+    );
+    if a.cut {
+        return Instance::faulty(1);
+    }
+    let b = read_columns(
+        s,
+        a.next,
+        32,
+        schema.attributes,
+        &node,
+        &counts,
+        &mut *values,
+    );
+    if b.cut {
+        return Instance::faulty(1);
+    }
+    if bits::tail_ok(s, b.next) {
+        return Instance {
+            fault: 0,
+            counts: counts,
+        };
+    }
+    Instance::faulty(2)
+}
+
+// What an instance sheet says, or the number with which it is sent back before any test of its sense.
+pub fn decode_instance(schema: Schema, s: &[u8], links: &mut [u32], values: &mut [u32]) -> Instance
+    requires { ⌜ Sound schema × Room (now links) (now values) ⌝ }
+    ensures { λ r. ⌜ Says schema r (now (links .exit)) (now (values .exit)) (onSheet (readInstance (schemaOf schema)) (now (s .entry))) ⌝ }
+{
+    let graph = schema.graph;
+    let nodes = graph.nodes;
+    if bits::lacks_room(s, 0, 10 * nodes) {
+        return Instance::faulty(1);
+    }
+    let counts = read_counts(s, nodes);
+    if total(&counts, nodes) <= Instance::ROWS {
+        return decode_tables(schema, s, counts, &mut *links, &mut *values);
+    }
+    Instance::faulty(3)
+}

@@ -1,0 +1,115 @@
+// Refusals 9 and 10: whether links lead to rows of their tables, and values are of their kinds.
+use crate::Instance;
+use crate::decode::rows_of;
+use crate::decode::wide;
+use crate::kinds::in_range;
+use schema::Schema;
+ghost use mathlib.Core.Path.{_≡_};
+ghost use mathlib.Core.List.{[]};
+ghost use Prim.Native.Nat.{_+_, _*_, _≤_};
+ghost use lib.Dec.{ltb};
+ghost use lib.ListN.{length};
+ghost use Rattle.theory.specs.Numbering.{tabulate};
+ghost use Rattle.meaning.specs.Lists.{all};
+ghost use Rattle.meaning.specs.Formats.{inRange};
+ghost use Rattle.meaning.specs.Judge.{linksInRange, valuesInRange};
+ghost use Rattle.schema.specs.Decoded.{schemaOf};
+ghost use Rattle.schema.specs.Judged.{Sound};
+ghost use Rattle.instance.specs.Decoded.{columnOf, tablesOf, Columns, Limits};
+ghost use Rattle.instance.specs.Tested.{linkTest, valueTest};
+
+// Whether n numbers from base on are below a bound.
+fn column_below(l: &[u32], base: usize, n: usize, bound: usize) -> bool
+    requires { ⌜ base + n ≤ length (now l) ⌝ }
+    ensures { λ r. ⌜ r ≡ all (λ x. ltb x bound) (columnOf (now (l .entry)) base n) ⌝ }
+{
+    let mut i = 0;
+    while i < n {
+        if wide(l[base + i]) >= bound {
+            return false;
+        }
+        i += 1;
+    }
+    true
+}
+
+// Whether n numbers from base on are values of a kind.
+fn column_in_range(kinds: &[u32], kind: usize, l: &[u32], base: usize, n: usize) -> bool
+    requires { ⌜ base + n ≤ length (now l) ⌝ }
+    ensures { λ r. ⌜ r ≡ all (inRange (now (kinds .entry)) kind) (columnOf (now (l .entry)) base n) ⌝ }
+{
+    let mut i = 0;
+    while i < n {
+        if in_range(kinds, kind, l[base + i]) {
+            i += 1;
+        } else {
+            return false;
+        }
+    }
+    true
+}
+
+// Whether the links along each of n edges are rows of its target.
+fn columns_below(n: usize, source: &[u8], target: &[u8], counts: &[u32], links: &[u32]) -> bool
+    requires { ⌜ Columns n (now source) (now counts) × Columns n (now target) (now counts) × (512 * n ≤ length (now links)) ⌝ }
+    ensures { λ r. ⌜ r ≡ all (linkTest (now (source .entry)) (now (target .entry)) (now (counts .entry)) (now (links .entry))) (tabulate n (λ e. e)) ⌝ }
+{
+    let mut e = 0;
+    while e < n {
+        let rows = rows_of(source, counts, e);
+        let bound = rows_of(target, counts, e);
+        if column_below(links, 512 * e, rows, bound) {
+            e += 1;
+        } else {
+            return false;
+        }
+    }
+    true
+}
+
+// Whether the values of each of n attributes are of its kind.
+fn columns_in_range(
+    n: usize,
+    node: &[u8],
+    kind: &[u8],
+    counts: &[u32],
+    values: &[u32],
+    kinds: &[u32],
+) -> bool
+    requires { ⌜ Columns n (now node) (now counts) × (n ≤ length (now kind)) × (512 * n ≤ length (now values)) ⌝ }
+    ensures { λ r. ⌜ r ≡ all (valueTest (now (node .entry)) (now (kind .entry)) (now (counts .entry)) (now (values .entry)) (now (kinds .entry))) (tabulate n (λ a. a)) ⌝ }
+{
+    let mut a = 0;
+    while a < n {
+        let rows = rows_of(node, counts, a);
+        if column_in_range(kinds, kind[a] as usize, values, 512 * a, rows) {
+            a += 1;
+        } else {
+            return false;
+        }
+    }
+    true
+}
+
+// Refusal 9 (dangling).
+pub fn links_in_range(schema: Schema, instance: Instance, links: &[u32]) -> bool
+    requires { ⌜ Sound schema × Limits schema instance × (length (now links) ≡ 16384) ⌝ }
+    ensures { λ r. ⌜ r ≡ linksInRange (schemaOf schema) (tablesOf schema instance (now (links .entry)) []) ⌝ }
+{
+    let graph = schema.graph;
+    let source = graph.source;
+    let target = graph.target;
+    let counts = instance.counts;
+    columns_below(graph.edges, &source, &target, &counts, links)
+}
+
+// Refusal 10 (off scale).
+pub fn values_in_range(schema: Schema, instance: Instance, values: &[u32], kinds: &[u32]) -> bool
+    requires { ⌜ Sound schema × Limits schema instance × (length (now values) ≡ 8192) ⌝ }
+    ensures { λ r. ⌜ r ≡ valuesInRange (now (kinds .entry)) (schemaOf schema) (tablesOf schema instance [] (now (values .entry))) ⌝ }
+{
+    let node = schema.node;
+    let kind = schema.kind;
+    let counts = instance.counts;
+    columns_in_range(schema.attributes, &node, &kind, &counts, values, kinds)
+}

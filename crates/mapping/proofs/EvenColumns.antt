@@ -1,0 +1,52 @@
+-- The attributes' part of evenness by arrays, and both parts together.
+use Prim.Native.Nat.{ℕ, _<_}
+use mathlib.Core.Path.{_≡_, refl, sym, ap, _∙_}
+use mathlib.Core.Bool.{Bool, true, cond, _&&_}
+use mathlib.Core.List.{List}
+use lib.ListN.{length, getD}
+use lib.Dec.{eqb}
+use Rattle.meaning.specs.Lists.{upto, all}
+use Rattle.meaning.specs.Schema as meaning
+use Rattle.meaning.specs.Schema.{attributeAt, pathsFrom}
+use Rattle.meaning.specs.Formats as formats
+use Rattle.meaning.specs.Views.{nodeImage}
+use Rattle.meaning.specs.Evenness.{lifts, oneClass, attributesAt, attributesOver, evenAt, even}
+use Rattle.schema.specs.declared.Schema.{Schema}
+use Rattle.schema.specs.declared.Paths.{Paths}
+use Rattle.schema.specs.Decoded.{schemaOf}
+use Rattle.schema.specs.Table.{Filled}
+use Rattle.mapping.specs.declared.Mapping.{Mapping}
+use Rattle.mapping.specs.Decoded.{mappingOf}
+use Rattle.mapping.specs.Judged.{Schemas, Sound, sideClass}
+use Rattle.mapping.specs.Even.{evenColumnAt, evenColumnsAt, evenPathsAt}
+use Rattle.mapping.proofs.Viewing.{node-at, attributes-count, attribute-is, all-upto}
+use Rattle.mapping.proofs.Counting.{all-filter, all-both}
+use Rattle.mapping.proofs.Columns.{attributes-over}
+use Rattle.mapping.proofs.EvenPaths.{even-paths}
+
+module _ (s t : Schema) (m : Mapping) where
+  abbrev S : meaning.Schema
+  S = schemaOf s
+
+  abbrev T : meaning.Schema
+  T = schemaOf t
+
+  abbrev F : formats.Mapping
+  F = mappingOf s m
+
+  abbrev one : ℕ → ℕ → Bool
+  one c b = eqb (length (attributesOver S F c b)) 1
+
+  even-columns : (c : ℕ) → c < s .graph .nodes → evenColumnsAt s t m c ≡ all (one c) (attributesAt T (nodeImage F c))
+  even-columns c l = sym (
+      all-filter (λ b. eqb (attributeAt T b .node) (nodeImage F c)) (one c) (upto (length (T .attributes)))
+      ∙ ap (λ (n : ℕ). all (λ b. cond (eqb (attributeAt T b .node) (nodeImage F c)) (one c b) true) (upto n)) (attributes-count t)
+      ∙ all-upto (λ b. cond (eqb (attributeAt T b .node) (nodeImage F c)) (one c b) true) (evenColumnAt (s .node) (m .attribute) (s .attributes) (t .node) c (getD (m .node) c 0)) (t .attributes)
+      (λ b k. rw (attribute-is t b k, node-at s m c l, attributes-over s m c b)))
+
+  pub even-by : {sp tp : Paths} {over : List ℕ} → Schemas s t sp tp → Sound s t sp m → Filled 256 (sideClass (m .path) (tp .class)) 256 over →
+      even S T F ≡ (all (evenPathsAt sp tp over (m .node)) (upto (s .graph .nodes)) && all (evenColumnsAt s t m) (upto (s .graph .nodes)))
+  even-by {sp} {tp} {over} h k o =
+      all-upto (evenAt S T F) (λ c. evenPathsAt sp tp over (m .node) c && evenColumnsAt s t m c) (s .graph .nodes)
+      (λ c l. rw (even-paths h k o c l, even-columns c l))
+      ∙ all-both (evenPathsAt sp tp over (m .node)) (evenColumnsAt s t m) (upto (s .graph .nodes))

@@ -1,0 +1,91 @@
+-- Refusal 7 by the arrays of a decoded mapping.
+use Prim.Native.Nat.{ℕ, _<_, _≤_}
+use mathlib.Core.Path.{_≡_, refl, sym, ap, _∙_}
+use mathlib.Core.Bool.{Bool, true, false, _&&_}
+use mathlib.Core.List.{List}
+use native.Mathlib.Omega.{arith}
+use borrow.Author.Tests.{ltb-true, ltb-false, lt-ltb}
+use lib.ListN.{length, getD}
+use lib.Dec.{ltb, eqb}
+use Rattle.theory.specs.Schema.{endpoint}
+use Rattle.meaning.specs.Lists.{upto, all}
+use Rattle.meaning.specs.Schema.{Attribute, source, target, joins, attributeAt}
+use Rattle.meaning.specs.Judge.{edgeImageFits, attributeImageFits, imagesFit}
+use Rattle.meaning.specs.Views.{nodeImage, edgeImage, attributeImage}
+use Rattle.meaning.proofs.Tabulate.{and-both, all-at}
+use Rattle.schema.specs.declared.Graph.{Graph}
+use Rattle.schema.specs.declared.Schema.{Schema}
+use Rattle.schema.specs.Decoded.{graphOf, schemaOf}
+use Rattle.schema.specs.Judged.{Sound}
+use Rattle.schema.proofs.GraphEdges.{edges-count, source-at, target-at}
+use Rattle.schema.proofs.Judging.{fit}
+use Rattle.agreement.proofs.Paths.{schema-is}
+use Rattle.mapping.specs.declared.Mapping.{Mapping}
+use Rattle.mapping.specs.Decoded.{firstOf, imageOf, noImage, mappingOf}
+use Rattle.mapping.specs.Judged.{NodesIn}
+use Rattle.mapping.proofs.Viewing.{node-at, edge-at, attribute-at, attributes-count, attribute-is, all-upto}
+
+-- ---- the tests of an edge and of an attribute, by arrays
+abbrev pub edgeTest : Graph → Graph → Mapping → ℕ → Bool
+edgeTest g h m e =
+    joins (graphOf h) (getD (m .node) (getD (g .source) e 0) 0) (imageOf (getD (m .edge) e noImage)) &&
+    eqb (endpoint (target (graphOf h)) (getD (m .node) (getD (g .source) e 0) 0) (imageOf (getD (m .edge) e noImage))) (getD (m .node) (getD (g .target) e 0) 0)
+
+abbrev pub attributeTest : Schema → Schema → Mapping → ℕ → Bool
+attributeTest s t m a =
+    ltb (getD (m .attribute) a 0) (t .attributes) &&
+    eqb (getD (t .kind) (getD (m .attribute) a 0) 0) (getD (s .kind) a 0) &&
+    eqb (getD (t .node) (getD (m .attribute) a 0) 0) (getD (m .node) (getD (s .node) a 0) 0)
+
+module _ (s : Schema) (S-is : Sound s) where
+  pub source-in : (e : ℕ) → e < s .graph .edges → getD (s .graph .source) e 0 < s .graph .nodes
+  source-in = fit (S-is .limits) (S-is .well-formed) .sources
+
+  pub target-in : (e : ℕ) → e < s .graph .edges → getD (s .graph .target) e 0 < s .graph .nodes
+  target-in = fit (S-is .limits) (S-is .well-formed) .targets
+
+  pub home-in : (a : ℕ) → a < s .attributes → getD (s .node) a 0 < s .graph .nodes
+  home-in a l =
+      let h = schema-is (schemaOf s) (S-is .well-formed) .home-in a (rw (attributes-count s) l) in
+      rw (attribute-is s a l) at h
+
+module _ (s t : Schema) (m : Mapping) (S-is : Sound s) where
+  edge-test : (e : ℕ) → e < s .graph .edges → edgeImageFits (schemaOf s) (schemaOf t) (mappingOf s m) e ≡ edgeTest (s .graph) (t .graph) m e
+  edge-test e l =
+      rw (
+        source-at (s .graph .edges) (s .graph .source) (s .graph .target) e l,
+        target-at (s .graph .edges) (s .graph .source) (s .graph .target) e l,
+        edge-at s m e l,
+        node-at s m (getD (s .graph .source) e 0) (source-in s S-is e l),
+        node-at s m (getD (s .graph .target) e 0) (target-in s S-is e l),
+      )
+
+  pub edges-test : all (edgeImageFits (schemaOf s) (schemaOf t) (mappingOf s m)) (upto (s .graph .edges)) ≡ all (edgeTest (s .graph) (t .graph) m) (upto (s .graph .edges))
+  edges-test = all-upto (edgeImageFits (schemaOf s) (schemaOf t) (mappingOf s m)) (edgeTest (s .graph) (t .graph) m) (s .graph .edges) edge-test
+
+  attribute-test : (a : ℕ) → a < s .attributes → attributeImageFits (schemaOf s) (schemaOf t) (mappingOf s m) a ≡ attributeTest s t m a
+  attribute-test a l =
+      rw (attribute-at s m a l, attribute-is s a l, node-at s m (getD (s .node) a 0) (home-in s S-is a l), attributes-count t) (go (ltb b (t .attributes)) refl)
+    where
+      b : ℕ
+      b = getD (m .attribute) a 0
+
+      go : (x : Bool) → ltb b (t .attributes) ≡ x →
+          (x && eqb (attributeAt (schemaOf t) b .kind) (getD (s .kind) a 0) && eqb (attributeAt (schemaOf t) b .node) (getD (m .node) (getD (s .node) a 0) 0))
+          ≡ (x && eqb (getD (t .kind) b 0) (getD (s .kind) a 0) && eqb (getD (t .node) b 0) (getD (m .node) (getD (s .node) a 0) 0))
+      go true e = rw (attribute-is t b (ltb-true b (t .attributes) e))
+      go false e = refl
+
+  pub attributes-test : all (attributeImageFits (schemaOf s) (schemaOf t) (mappingOf s m)) (upto (s .attributes)) ≡ all (attributeTest s t m) (upto (s .attributes))
+  attributes-test = all-upto (attributeImageFits (schemaOf s) (schemaOf t) (mappingOf s m)) (attributeTest s t m) (s .attributes) attribute-test
+
+-- the nodes' test gives what the others rely on
+pub nodes-in : {s t : Schema} {m : Mapping} → all (λ d. ltb d (t .graph .nodes)) (firstOf (s .graph .nodes) (m .node)) ≡ true → NodesIn s t m
+nodes-in {s} {t} {m} h = record { each = λ c l. ltb-true (getD (m .node) c 0) (t .graph .nodes) (all-at (λ d. ltb d (t .graph .nodes)) (s .graph .nodes) (λ i. getD (m .node) i 0) h c l) }
+
+-- all three together
+pub fits-by : (s t : Schema) (m : Mapping) → imagesFit (schemaOf s) (schemaOf t) (mappingOf s m) ≡
+    (all (λ d. ltb d (t .graph .nodes)) (firstOf (s .graph .nodes) (m .node)) &&
+    all (edgeImageFits (schemaOf s) (schemaOf t) (mappingOf s m)) (upto (s .graph .edges)) &&
+    all (attributeImageFits (schemaOf s) (schemaOf t) (mappingOf s m)) (upto (s .attributes)))
+fits-by s t m = rw (edges-count (s .graph .edges) (s .graph .source) (s .graph .target), attributes-count s)

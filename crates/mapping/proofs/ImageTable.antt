@@ -1,0 +1,71 @@
+-- The table of images, path by path.
+use Prim.Native.Nat.{ℕ, _+_, _<_, _≤_}
+use mathlib.Core.Path.{_≡_, refl, sym, ap, _∙_, subst}
+use mathlib.Core.Bool.{true, false}
+use mathlib.Core.List.{List}
+use native.Mathlib.Omega.{arith}
+use lib.ListN.{length, getD}
+use Rattle.meaning.specs.Schema as meaning
+use Rattle.meaning.specs.Formats as formats
+use Rattle.meaning.specs.Views.{edgeImage}
+use Rattle.agreement.proofs.Paths.{WellFormed, pathCount}
+use Rattle.schema.specs.declared.Schema.{Schema}
+use Rattle.schema.specs.declared.Paths.{Paths}
+use Rattle.schema.specs.Decoded.{graphOf, schemaOf}
+use Rattle.schema.specs.Judged.{Sound}
+use Rattle.schema.specs.PathNumbers.{parentOf, lastOf}
+use Rattle.schema.specs.Table.{Filled}
+use Rattle.schema.specs.PathWalks.{walkFrom, WalkIn}
+use Rattle.schema.proofs.GraphEdges.{edges-count}
+use Rattle.schema.proofs.EquationPairs.{table-index}
+use Rattle.mapping.specs.declared.Mapping.{Mapping}
+use Rattle.mapping.specs.Decoded.{imageOf, noImage, mappingOf, Short}
+use Rattle.mapping.specs.Judged.{Imageable, imageNumber}
+use Rattle.mapping.proofs.Viewing.{node-at, edge-at}
+use Rattle.mapping.proofs.Imaging.{Fits, fits, Next, image-trivial, image-next, image-below}
+
+pub formed : {s : Schema} → Sound s → WellFormed (schemaOf s)
+formed h = record { fits = h .well-formed; acyclic = h .acyclic }
+
+module _ {s t : Schema} {sp tp : Paths} {m : Mapping} (h : Imageable s t sp tp m) where
+  abbrev number : ℕ → ℕ
+  number = imageNumber (schemaOf s) (schemaOf t) (mappingOf s m)
+
+  pub images : Fits (schemaOf s) (schemaOf t) (mappingOf s m)
+  images = fits s (schemaOf t) m (h .fits)
+
+  pub number-low : (i : ℕ) → i < sp .count → number i < 256
+  number-low i l =
+      let e = h .schemas .source-paths .table .counted in
+      let f = h .schemas .target-paths .table .few in
+      let g = h .schemas .target-paths .table .counted in
+      omega (arith, image-below (formed (h .schemas .source)) (formed (h .schemas .target)) images i (omega arith))
+
+  pub trivial-image : (k : ℕ) → k < s .graph .nodes → getD (m .node) k 0 ≡ number k
+  trivial-image k l = sym (node-at s m k l) ∙ sym (image-trivial (formed (h .schemas .source)) (formed (h .schemas .target)) images k l)
+
+  -- the image of path k, where those of the paths before it are there
+  pub record Turn (path : List ℕ) (k : ℕ) : Type 0 where
+    pub parent-below : getD (sp .parent) k 0 < k
+    pub last-in : getD (sp .last) k 0 < s .graph .edges
+    pub short : getD (m .edge) (getD (sp .last) k 0) noImage .length ≤ 15
+    pub within : WalkIn (tp .first) (tp .rank) (getD path (getD (sp .parent) k 0) 0) (imageOf (getD (m .edge) (getD (sp .last) k 0) noImage))
+    pub is : walkFrom (tp .first) (tp .rank) (getD path (getD (sp .parent) k 0) 0) (imageOf (getD (m .edge) (getD (sp .last) k 0) noImage)) ≡ number k
+
+  pub longer-image : {path : List ℕ} {k : ℕ} → Filled 256 number k path → s .graph .nodes ≤ k → k < sp .count → Turn path k
+  longer-image {path} {k} p l b =
+      let G = graphOf (s .graph) in
+      let c = h .schemas .source-paths .table .columns in
+      let x : getD (sp .parent) k 0 ≡ parentOf G k = c .parent .each k b in
+      let e : getD (sp .last) k 0 ≡ lastOf G k = c .last .each k b in
+      let n = image-next (formed (h .schemas .source)) (formed (h .schemas .target)) images (table-index t tp (h .schemas .target) (h .schemas .target-paths .table)) k l (let z = h .schemas .source-paths .table .counted in omega arith) in
+      let i : lastOf G k < s .graph .edges = omega (arith, n .last-in, edges-count (s .graph .edges) (s .graph .source) (s .graph .target)) in
+      let y : getD path (parentOf G k) 0 ≡ number (parentOf G k) = p .each (parentOf G k) (n .parent-below) in
+      let w = edge-at s m (lastOf G k) i in
+      record {
+        parent-below = rw x (n .parent-below);
+        last-in = rw e i;
+        short = rw e (h .short .each (lastOf G k) i);
+        within = rw (x, e, y, ← w) (n .within);
+        is = rw (x, e, y, ← w) (n .is);
+      }

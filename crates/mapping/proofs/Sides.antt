@@ -1,0 +1,80 @@
+-- Refusal 8 by class numbers: an equation's sides are paths of S, and the classes of their images stand in the tables.
+use Prim.Native.Nat.{ℕ, _<_, _≤_}
+use mathlib.Core.Path.{_≡_, refl, sym, ap, _∙_}
+use mathlib.Core.Bool.{Bool, true, false, _&&_}
+use mathlib.Core.List.{List}
+use native.Mathlib.Omega.{arith}
+use lib.ListN.{length, getD}
+use lib.Dec.{eqb}
+use Rattle.meaning.specs.Lists.{all}
+use Rattle.meaning.specs.Schema.{Path, Equation, isPath, end}
+use Rattle.meaning.specs.PathEquality.{classOf, equal}
+use Rattle.meaning.specs.Judge.{edgeFits, attributeFits, equationFits, isWellFormed, keepsEquations}
+use Rattle.meaning.specs.Views.{pathImage}
+use Rattle.meaning.proofs.Tabulate.{and-both, all-at}
+use Rattle.agreement.proofs.Paths.{pathCount, numberOf, pathAt, number-in, number-path, path-iff, allPaths-each}
+use Rattle.schema.specs.declared.Schema.{Schema}
+use Rattle.schema.specs.declared.Path as declared
+use Rattle.schema.specs.declared.Paths.{Paths}
+use Rattle.schema.specs.Decoded.{graphOf, pathOf, equationOf, noPath, schemaOf}
+use Rattle.schema.specs.Judged.{Sound, SoundPath}
+use Rattle.schema.specs.Table.{Filled, IsTable}
+use Rattle.schema.specs.PathWalks.{walkFrom, WalkIn}
+use Rattle.schema.proofs.EquationPairs.{path-numbered}
+use Rattle.mapping.specs.declared.Mapping.{Mapping}
+use Rattle.mapping.specs.Decoded.{mappingOf}
+use Rattle.mapping.specs.Judged.{Imageable, imageNumber, sideClass}
+use Rattle.mapping.proofs.Viewing.{all-same}
+use Rattle.mapping.proofs.Imaging.{image-below}
+use Rattle.mapping.proofs.ImageTable.{formed, images}
+
+module _ (s : Schema) where
+  abbrev pub equation : ℕ → Equation
+  equation q = equationOf (getD (s .left) q noPath) (getD (s .right) q noPath)
+
+  pub sides : Sound s → (q : ℕ) → q < s .equations → SoundPath (s .graph) (getD (s .left) q noPath) × SoundPath (s .graph) (getD (s .right) q noPath)
+  sides h q l =
+      let G = graphOf (s .graph) in
+      let x = equation q .left in
+      let y = equation q .right in
+      let a = all (edgeFits G) (G .edges) && all (attributeFits G) (schemaOf s .attributes) in
+      let e = and-both a (all (equationFits G) (schemaOf s .equations)) (h .well-formed) .1 in
+      let u = and-both (isPath G x && isPath G y && eqb (x .start) (y .start)) (eqb (end G x) (end G y)) (all-at (equationFits G) (s .equations) equation e q l) in
+      let v = and-both (isPath G x) (isPath G y) (and-both (isPath G x && isPath G y) (eqb (x .start) (y .start)) (u .0) .0) in
+      (record { short = h .limits .left .each q l; path = v .0 }, record { short = h .limits .right .each q l; path = v .1 })
+
+  -- the number of a path
+  pub number-below : Sound s → (p : Path) → isPath (graphOf (s .graph)) p ≡ true → (numberOf (graphOf (s .graph)) p < pathCount (graphOf (s .graph))) × (pathAt (graphOf (s .graph)) (numberOf (graphOf (s .graph)) p) ≡ p)
+  number-below h p e =
+      let m = allPaths-each (schemaOf s) (formed h) p .1 (path-iff (schemaOf s) (h .well-formed) (p .start) (p .edges) .0 e) in
+      (number-in (graphOf (s .graph)) m, number-path (graphOf (s .graph)) m)
+
+-- how a side's number is found
+pub record Side (s : Schema) (sp : Paths) (p : declared.Path) : Type 0 where
+  pub short : p .length ≤ 15
+  pub within : WalkIn (sp .first) (sp .rank) (p .start) (pathOf p .edges)
+  pub low : walkFrom (sp .first) (sp .rank) (p .start) (pathOf p .edges) < 256
+  pub is : walkFrom (sp .first) (sp .rank) (p .start) (pathOf p .edges) ≡ numberOf (graphOf (s .graph)) (pathOf p)
+
+pub side : {s : Schema} {sp : Paths} {p : declared.Path} → Sound s → IsTable (graphOf (s .graph)) sp → SoundPath (s .graph) p → Side s sp p
+side {s} {sp} h t w = let n = path-numbered s sp h t w in record { short = w .short; within = n .within; low = omega (arith, n .below, t .counted, t .few); is = n .number }
+
+module _ {s t : Schema} {sp tp : Paths} {m : Mapping} (h : Imageable s t sp tp m) {path : List ℕ} (f : Filled 256 (imageNumber (schemaOf s) (schemaOf t) (mappingOf s m)) (sp .count) path) where
+  pub image-class : (i : ℕ) → i < sp .count → classOf (schemaOf t) (pathImage (mappingOf s m) (pathAt (graphOf (s .graph)) i)) ≡ sideClass path (tp .class) i
+  image-class i l =
+      let a = h .schemas .source-paths .table .counted in
+      let b = h .schemas .target-paths .table .counted in
+      let k = image-below (formed (h .schemas .source)) (formed (h .schemas .target)) (images h) i (omega arith) in
+      sym (h .schemas .target-paths .class .each (imageNumber (schemaOf s) (schemaOf t) (mappingOf s m) i) (omega arith)) ∙ ap (λ (x : ℕ). getD (tp .class) x 0) (sym (f .each i l))
+
+  side-class : (p : Path) → isPath (graphOf (s .graph)) p ≡ true → classOf (schemaOf t) (pathImage (mappingOf s m) p) ≡ sideClass path (tp .class) (numberOf (graphOf (s .graph)) p)
+  side-class p e =
+      let n = number-below s (h .schemas .source) p e in
+      ap (λ (x : Path). classOf (schemaOf t) (pathImage (mappingOf s m) x)) (sym (n .1)) ∙ image-class (numberOf (graphOf (s .graph)) p) (let a = h .schemas .source-paths .table .counted in let b = n .0 in omega arith)
+
+  abbrev agrees : Equation → Bool
+  agrees x = eqb (sideClass path (tp .class) (numberOf (graphOf (s .graph)) (x .left))) (sideClass path (tp .class) (numberOf (graphOf (s .graph)) (x .right)))
+
+  pub keeps-by : keepsEquations (schemaOf s) (schemaOf t) (mappingOf s m) ≡ all agrees (schemaOf s .equations)
+  keeps-by = all-same (λ q. equal (schemaOf t) (pathImage (mappingOf s m) (q .left)) (pathImage (mappingOf s m) (q .right))) agrees (s .equations) (equation s)
+      (λ q l. let u = sides s (h .schemas .source) q l in rw (side-class (equation s q .left) (u .0 .path), side-class (equation s q .right) (u .1 .path)))

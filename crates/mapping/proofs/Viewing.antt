@@ -1,0 +1,68 @@
+-- A decoded mapping, read by node, edge and attribute; and a loop over all numbers below a bound.
+use Prim.Native.Nat.{ℕ, zero, suc, _+_, _<_, _≤_}
+use mathlib.Core.Path.{_≡_, refl, sym, ap, _∙_}
+use mathlib.Core.Bool.{Bool, true, false, _&&_}
+use mathlib.Core.List.{List, _∷_}
+use native.Mathlib.Omega.{arith}
+use lib.ListN.{length, getD}
+use Rattle.theory.specs.Numbering.{tabulate}
+use Rattle.theory.proofs.Numbering.{tabulate-length, tabulate-getD}
+use Rattle.meaning.specs.Lists.{range, upto, all}
+use Rattle.meaning.specs.Schema.{Attribute, attributeAt}
+use Rattle.meaning.specs.Views.{nodeImage, edgeImage, attributeImage}
+use Rattle.meaning.proofs.Tabulate.{tabulate-same, Passed, passed-fail, passed-done}
+use Rattle.schema.specs.declared.Schema.{Schema}
+use Rattle.schema.specs.Decoded.{schemaOf}
+use Rattle.mapping.specs.declared.Mapping.{Mapping}
+use Rattle.mapping.specs.Decoded.{imageOf, noImage, mappingOf}
+
+-- ---- images
+module _ (s : Schema) (m : Mapping) where
+  pub node-at : (c : ℕ) → c < s .graph .nodes → nodeImage (mappingOf s m) c ≡ getD (m .node) c 0
+  node-at c l = tabulate-getD (s .graph .nodes) (λ i. getD (m .node) i 0) 0 c l
+
+  pub edge-at : (e : ℕ) → e < s .graph .edges → edgeImage (mappingOf s m) e ≡ imageOf (getD (m .edge) e noImage)
+  edge-at e l = tabulate-getD (s .graph .edges) (λ i. imageOf (getD (m .edge) i noImage)) _ e l
+
+  pub attribute-at : (a : ℕ) → a < s .attributes → attributeImage (mappingOf s m) a ≡ getD (m .attribute) a 0
+  attribute-at a l = tabulate-getD (s .attributes) (λ i. getD (m .attribute) i 0) 0 a l
+
+-- ---- attributes of a schema
+module _ (s : Schema) where
+  abbrev attribute : ℕ → Attribute
+  attribute a = record { node = getD (s .node) a 0; kind = getD (s .kind) a 0 }
+
+  pub attributes-count : length (schemaOf s .attributes) ≡ s .attributes
+  attributes-count = tabulate-length (s .attributes) attribute
+
+  pub attribute-is : (a : ℕ) → a < s .attributes → attributeAt (schemaOf s) a ≡ attribute a
+  attribute-is a l = tabulate-getD (s .attributes) attribute _ a l
+
+-- ---- all numbers below n
+range-tabulate : (s n : ℕ) → range s n ≡ tabulate n (λ i. s + i)
+range-tabulate s zero = refl
+range-tabulate s (suc n) =
+    ap (λ (x : ℕ). x ∷ range (suc s) n) (omega arith)
+    ∙ ap (λ (l : List ℕ). (s + 0) ∷ l) (range-tabulate (suc s) n ∙ tabulate-same n (λ i l. omega arith))
+
+pub upto-tabulate : (n : ℕ) → upto n ≡ tabulate n (λ i. i)
+upto-tabulate n = range-tabulate 0 n ∙ tabulate-same n (λ i l. omega arith)
+
+module _ {A : Type 0} (f g : A → Bool) where
+  pub all-same : (n : ℕ) (h : ℕ → A) → ((i : ℕ) → i < n → f (h i) ≡ g (h i)) → all f (tabulate n h) ≡ all g (tabulate n h)
+  all-same zero h e = refl
+  all-same (suc n) h e =
+      ap (λ (b : Bool). b && all f (tabulate n (λ i. h (suc i)))) (e 0 (omega arith))
+      ∙ ap (λ (b : Bool). g (h 0) && b) (all-same n (λ i. h (suc i)) (λ i l. e (suc i) (omega arith)))
+
+-- a test of all numbers below n, by another that agrees with it there
+pub all-upto : (f g : ℕ → Bool) (n : ℕ) → ((i : ℕ) → i < n → f i ≡ g i) → all f (upto n) ≡ all g (upto n)
+all-upto f g n e = ap (all f) (upto-tabulate n) ∙ all-same f g n (λ i. i) e ∙ ap (all g) (sym (upto-tabulate n))
+
+-- a loop that tests all numbers below n
+module _ {f : ℕ → Bool} {n i : ℕ} (u : Passed f n (λ k. k) i) where
+  pub upto-fail : i < n → f i ≡ false → all f (upto n) ≡ false
+  upto-fail l e = ap (all f) (upto-tabulate n) ∙ passed-fail u l e
+
+  pub upto-done : n ≤ i → all f (upto n) ≡ true
+  upto-done l = ap (all f) (upto-tabulate n) ∙ passed-done u l

@@ -1,0 +1,4 @@
+pub mod Decoded
+pub mod Judged
+pub mod Even
+pub mod Lifts

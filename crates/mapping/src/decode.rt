@@ -1,0 +1,122 @@
+// What a mapping sheet holds, read into a struct: refusals 1 and 2.
+use crate::Image;
+use crate::Mapping;
+use schema::Schema;
+use schema::decode::column;
+use schema::decode::small;
+ghost use mathlib.Core.Path.{_≡_};
+ghost use Prim.Native.Nat.{_*_, _≤_};
+ghost use Rattle.meaning.specs.Sheet.{onSheet};
+ghost use Rattle.meaning.specs.Formats.{readMapping};
+ghost use Rattle.schema.specs.Decoded.{Near, Limits, schemaOf};
+ghost use Rattle.mapping.specs.Decoded.{ImageTaken, ImagesTaken, Decoded};
+
+// An edge's image from a position on, or that the bits end before it does.
+struct ImageRead {
+    cut: bool,
+    next: usize,
+    image: Image,
+}
+
+fn read_image(s: &[u8], at: usize) -> ImageRead
+    requires { ⌜ Near (now s) at 79 ⌝ }
+    ensures { λ r. ⌜ ImageTaken (now (s .entry)) at r ⌝ }
+{
+    let none = Image::empty();
+    if bits::lacks_room(s, at, 4) {
+        return ImageRead {
+            cut: true,
+            next: at,
+            image: none,
+        };
+    }
+    let n = small(s, at, 4) as usize;
+    if bits::lacks_room(s, at + 4, 5 * n) {
+        return ImageRead {
+            cut: true,
+            next: at,
+            image: none,
+        };
+    }
+    let edges = column(s, at + 4, 5, 5, n);
+    let image = Image {
+        length: n,
+        edges: edges,
+    };
+    ImageRead {
+        cut: false,
+        next: at + 4 + 5 * n,
+        image: image,
+    }
+}
+
+// The images of n edges, one after the other.
+struct ImagesRead {
+    cut: bool,
+    next: usize,
+    edge: [Image; Mapping::EDGES],
+}
+
+fn read_images(s: &[u8], at: usize, n: usize) -> ImagesRead
+    requires { ⌜ Near (now s) at (79 * n) × (n ≤ 32) ⌝ }
+    ensures { λ r. ⌜ ImagesTaken (now (s .entry)) at n r ⌝ }
+{
+    let none = Image::empty();
+    let mut edge = [none; Mapping::EDGES];
+    let mut i = 0;
+    let mut p = at;
+    while i < n {
+        let read = read_image(s, p);
+        if read.cut {
+            return ImagesRead {
+                cut: true,
+                next: at,
+                edge: edge,
+            };
+        }
+        let image = read.image;
+        edge[i] = image;
+        p = read.next;
+        i += 1;
+    }
+    ImagesRead {
+        cut: false,
+        next: p,
+        edge: edge,
+    }
+}
+
+// What a mapping sheet says, or the number with which it is sent back before any test of its sense.
+pub fn decode_mapping(t: Schema, s: &[u8]) -> Mapping
+    requires { ⌜ Limits t ⌝ }
+    ensures { λ r. ⌜ Decoded t r (onSheet (readMapping (schemaOf t)) (now (s .entry))) ⌝ }
+{
+    let nodes = t.graph.nodes;
+    let attributes = t.attributes;
+    let first = 4 * nodes;
+    if bits::lacks_room(s, 0, first) {
+        return Mapping::faulty(1);
+    }
+    let images = read_images(s, first, t.graph.edges);
+    if images.cut {
+        return Mapping::faulty(1);
+    }
+    let middle = images.next;
+    let last = 4 * attributes;
+    if bits::lacks_room(s, middle, last) {
+        return Mapping::faulty(1);
+    }
+    if bits::tail_ok(s, middle + last) {
+        let node = column(s, 0, 4, 4, nodes);
+        let attribute = column(s, middle, 4, 4, attributes);
+        let edge = images.edge;
+        return Mapping {
+            fault: 0,
+            node: node,
+            edge: edge,
+            attribute: attribute,
+            path: [0u8; Mapping::PATHS],
+        };
+    }
+    Mapping::faulty(2)
+}

@@ -1,0 +1,233 @@
+// Refusal 12: whether a mapping is even. At each node c every path from F(c), trivial ones included, has one lift up to equality; and
+// each attribute at F(c) is the image of exactly one at c.
+use crate::Mapping;
+use crate::images::index;
+use schema::Paths;
+use schema::Schema;
+ghost use mathlib.Core.Path.{_≡_};
+ghost use mathlib.Core.Bool.{_&&_};
+ghost use Prim.Native.Nat.{_≤_, _<_};
+ghost use lib.ListN.{getD, length};
+ghost use lib.Dec.{eqb};
+ghost use Rattle.meaning.specs.Lists.{upto, filter, all};
+ghost use Rattle.meaning.specs.Evenness.{even};
+ghost use Rattle.schema.specs.Decoded.{schemaOf};
+ghost use Rattle.schema.specs.Table.{Filled};
+ghost use Rattle.mapping.specs.Decoded.{mappingOf};
+ghost use Rattle.mapping.specs.Judged.{Schemas, Sound, sideClass};
+ghost use Rattle.mapping.specs.Even.{liftClasses, agreesAt, metAt, evenPathsAt, isOver, evenColumnAt, evenColumnsAt};
+
+// A byte as a number that can also say 256.
+fn word(x: u8) -> u16
+    ensures { λ r. ⌜ (r ≡ x) × (r < 256) ⌝ }
+{
+    x as u16
+}
+
+// The class of the image of each path.
+pub fn image_classes<'a>(
+    path: &'a [u8; Mapping::PATHS],
+    class: &'a [u8; Schema::PATHS],
+) -> [u8; Mapping::PATHS]
+    ensures { λ r. ⌜ Filled 256 (sideClass (now (path .entry)) (now (class .entry))) 256 r ⌝ }
+{
+    let mut over = [0u8; Mapping::PATHS];
+    let mut i = 0;
+    while i < Mapping::PATHS {
+        let x = index(path[i]);
+        over[i] = class[x];
+        i += 1;
+    }
+    over
+}
+
+// For each class of T the class of a path from c over it; 256 where there is none.
+fn lift_classes<'a>(
+    start: &'a [u8; Schema::PATHS],
+    class: &'a [u8; Schema::PATHS],
+    over: &'a [u8; Mapping::PATHS],
+    count: usize,
+    c: u8,
+) -> [u16; Schema::PATHS]
+    requires { ⌜ count ≤ 256 ⌝ }
+    ensures { λ r. ⌜ r ≡ liftClasses (now (start .entry)) (now (class .entry)) (now (over .entry)) c count ⌝ }
+{
+    let mut lifts = [256u16; Schema::PATHS];
+    let mut i = 0;
+    while i < count {
+        let k = i;
+        i += 1;
+        if start[k] == c {
+            let x = index(over[k]);
+            lifts[x] = word(class[k]);
+        }
+    }
+    lifts
+}
+
+// Whether each path from c has that class.
+fn agree<'a>(
+    start: &'a [u8; Schema::PATHS],
+    class: &'a [u8; Schema::PATHS],
+    over: &'a [u8; Mapping::PATHS],
+    lifts: &'a [u16; Schema::PATHS],
+    count: usize,
+    c: u8,
+) -> bool
+    requires { ⌜ count ≤ 256 ⌝ }
+    ensures { λ r. ⌜ r ≡ all (agreesAt (now (start .entry)) (now (class .entry)) (now (over .entry)) (now (lifts .entry)) c) (upto count) ⌝ }
+{
+    let mut i = 0;
+    while i < count {
+        let k = i;
+        i += 1;
+        if start[k] == c {
+            let x = index(over[k]);
+            if lifts[x] != word(class[k]) {
+                return false;
+            }
+        }
+    }
+    true
+}
+
+// Whether each path of T from d has a path over it.
+fn met<'a>(
+    start: &'a [u8; Schema::PATHS],
+    class: &'a [u8; Schema::PATHS],
+    lifts: &'a [u16; Schema::PATHS],
+    count: usize,
+    d: u8,
+) -> bool
+    requires { ⌜ count ≤ 256 ⌝ }
+    ensures { λ r. ⌜ r ≡ all (metAt (now (start .entry)) (now (class .entry)) (now (lifts .entry)) d) (upto count) ⌝ }
+{
+    let mut j = 0;
+    while j < count {
+        let k = j;
+        j += 1;
+        if start[k] == d {
+            let x = index(class[k]);
+            if lifts[x] == 256 {
+                return false;
+            }
+        }
+    }
+    true
+}
+
+// Whether each path of T from the image of a node has one lift at that node, for each of the nodes; over has the class of the image of each path.
+fn paths_even<'a>(
+    nodes: usize,
+    sp: Paths,
+    tp: Paths,
+    over: &'a [u8; Mapping::PATHS],
+    node: &'a [u8; Mapping::NODES],
+) -> bool
+    requires { ⌜ (nodes ≤ 16) × (sp .count ≤ 256) × (tp .count ≤ 256) ⌝ }
+    ensures { λ r. ⌜ r ≡ all (evenPathsAt sp tp (now (over .entry)) (now (node .entry))) (upto nodes) ⌝ }
+{
+    let mut i = 0;
+    while i < nodes {
+        let c = i as u8;
+        let lifts = lift_classes(&sp.start, &sp.class, over, sp.count, c);
+        if agree(&sp.start, &sp.class, over, &lifts, sp.count, c) {
+            if met(&tp.start, &tp.class, &lifts, tp.count, node[i]) {
+                i += 1;
+            } else {
+                return false;
+            }
+        } else {
+            return false;
+        }
+    }
+    true
+}
+
+// How many of the first n attributes sit at c and have the image b.
+fn count_over<'a>(
+    home: &'a [u8; Schema::ATTRIBUTES],
+    image: &'a [u8; Mapping::ATTRIBUTES],
+    n: usize,
+    c: u8,
+    b: u8,
+) -> usize
+    requires { ⌜ n ≤ 16 ⌝ }
+    ensures { λ r. ⌜ r ≡ length (filter (isOver (now (home .entry)) (now (image .entry)) c b) (upto n)) ⌝ }
+{
+    let mut found: usize = 0;
+    let mut a = 0;
+    while a < n {
+        let k = a;
+        a += 1;
+        if home[k] == c {
+            if image[k] == b {
+                found += 1;
+            }
+        }
+    }
+    found
+}
+
+// Whether each attribute of T at d, of the first count, is the image of exactly one at c.
+fn columns_even<'a>(
+    home: &'a [u8; Schema::ATTRIBUTES],
+    image: &'a [u8; Mapping::ATTRIBUTES],
+    n: usize,
+    there: &'a [u8; Schema::ATTRIBUTES],
+    count: usize,
+    c: u8,
+    d: u8,
+) -> bool
+    requires { ⌜ (n ≤ 16) × (count ≤ 16) ⌝ }
+    ensures { λ r. ⌜ r ≡ all (evenColumnAt (now (home .entry)) (now (image .entry)) n (now (there .entry)) c d) (upto count) ⌝ }
+{
+    let mut b = 0;
+    while b < count {
+        let k = b;
+        b += 1;
+        if there[k] == d {
+            if count_over(home, image, n, c, k as u8) != 1 {
+                return false;
+            }
+        }
+    }
+    true
+}
+
+// The same for each node of S.
+fn attributes_even(s: Schema, t: Schema, m: Mapping) -> bool
+    requires { ⌜ (s .graph .nodes ≤ 16) × (s .attributes ≤ 16) × (t .attributes ≤ 16) ⌝ }
+    ensures { λ r. ⌜ r ≡ all (evenColumnsAt s t m) (upto (s .graph .nodes)) ⌝ }
+{
+    let nodes = s.graph.nodes;
+    let mut c = 0;
+    while c < nodes {
+        let d = m.node[c];
+        if columns_even(
+            &s.node,
+            &m.attribute,
+            s.attributes,
+            &t.node,
+            t.attributes,
+            c as u8,
+            d,
+        ) {
+            c += 1;
+        } else {
+            return false;
+        }
+    }
+    true
+}
+
+pub fn is_even(s: Schema, t: Schema, sp: Paths, tp: Paths, m: Mapping) -> bool
+    requires { ⌜ Schemas s t sp tp × Sound s t sp m ⌝ }
+    ensures { λ r. ⌜ r ≡ even (schemaOf s) (schemaOf t) (mappingOf s m) ⌝ }
+{
+    let over = image_classes(&m.path, &tp.class);
+    if paths_even(s.graph.nodes, sp, tp, &over, &m.node) {
+        return attributes_even(s, t, m);
+    }
+    false
+}

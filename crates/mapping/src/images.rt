@@ -1,0 +1,96 @@
+// The image of every path of S, as its number among the paths of T; and refusal 8: whether the sides of each equation have equal images.
+use crate::Mapping;
+use schema::Path;
+use schema::Paths;
+use schema::Schema;
+use schema::numbers::wide;
+use schema::walk::walk;
+ghost use mathlib.Core.Path.{_≡_};
+ghost use Prim.Native.Nat.{_<_, _≤_};
+ghost use lib.ListN.{getD};
+ghost use lib.Dec.{eqb};
+ghost use Rattle.meaning.specs.Lists.{all};
+ghost use Rattle.agreement.proofs.Paths.{numberOf};
+ghost use Rattle.schema.specs.Decoded.{graphOf, pathOf, schemaOf};
+ghost use Rattle.schema.specs.Judged.{Sound};
+ghost use Rattle.schema.specs.Table.{Filled, IsTable};
+ghost use Rattle.schema.specs.PathWalks.{walkFrom, WalkIn};
+ghost use Rattle.mapping.specs.Decoded.{mappingOf};
+ghost use Rattle.mapping.specs.Judged.{Imageable, imageNumber, sideClass};
+
+// A byte as an index into a table of paths.
+pub fn index(x: u8) -> usize
+    ensures { λ r. ⌜ (r ≡ x) × (r < 256) ⌝ }
+{
+    x as usize
+}
+
+// A path's image: its parent's, followed by the image of its last edge.
+pub fn path_images(s: Schema, t: Schema, sp: Paths, tp: Paths, m: Mapping) -> [u8; Mapping::PATHS]
+    requires { ⌜ Imageable s t sp tp m ⌝ }
+    ensures { λ r. ⌜ Filled 256 (imageNumber (schemaOf s) (schemaOf t) (mappingOf s m)) (sp .count) r ⌝ }
+{
+    let count = sp.count;
+    let mut path = [0u8; Mapping::PATHS];
+    let mut i = 0;
+    while i < count {
+        let k = i;
+        i += 1;
+        if k < s.graph.nodes {
+            path[k] = m.node[k];
+        } else {
+            let parent = wide(sp.parent[k]);
+            let last = wide(sp.last[k]);
+            let image = m.edge[last];
+            path[k] = walk(
+                &tp.first,
+                &tp.rank,
+                wide(path[parent]),
+                &image.edges,
+                image.length,
+            ) as u8;
+        }
+    }
+    path
+}
+
+// The class of the image of a path, by the image of each path and the class of each image.
+fn side_class<'a>(
+    first: &'a [u16; 257],
+    rank: &'a [u8; Schema::EDGES],
+    path: &'a [u8; Mapping::PATHS],
+    class: &'a [u8; Schema::PATHS],
+    p: Path,
+) -> u8
+    requires { ⌜ (p .length ≤ 15) × WalkIn (now first) (now rank) (p .start) (pathOf p .edges) × (walkFrom (now first) (now rank) (p .start) (pathOf p .edges) < 256) ⌝ }
+    ensures { λ r. ⌜ r ≡ sideClass (now (path .entry)) (now (class .entry)) (walkFrom (now (first .entry)) (now (rank .entry)) (p .start) (pathOf p .edges)) ⌝ }
+{
+    let x = index(path[walk(first, rank, wide(p.start), &p.edges, p.length)]);
+    class[x]
+}
+
+// Whether the sides of each equation have images of one class.
+pub fn sides_agree<'a>(
+    s: Schema,
+    sp: Paths,
+    path: &'a [u8; Mapping::PATHS],
+    class: &'a [u8; Schema::PATHS],
+) -> bool
+    requires { ⌜ Sound s × IsTable (graphOf (s .graph)) sp ⌝ }
+    ensures { λ r. ⌜ r ≡ all (λ q. eqb (sideClass (now (path .entry)) (now (class .entry)) (numberOf (graphOf (s .graph)) (q .left))) (sideClass (now (path .entry)) (now (class .entry)) (numberOf (graphOf (s .graph)) (q .right)))) (schemaOf s .equations) ⌝ }
+{
+    let n = s.equations;
+    let mut q = 0;
+    while q < n {
+        let left = s.left[q];
+        let right = s.right[q];
+        if side_class(&sp.first, &sp.rank, path, class, left)
+            == side_class(&sp.first, &sp.rank, path, class, right)
+        {
+            q += 1;
+        } else {
+            return false;
+        }
+    }
+    true
+}

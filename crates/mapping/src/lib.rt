@@ -1,0 +1,106 @@
+// Mappings: the judge of a mapping sheet, images of paths, evenness and lifts.
+pub mod attributes;
+pub mod decode;
+pub mod even;
+pub mod fits;
+pub mod images;
+pub mod lifts;
+
+use schema::Paths;
+use schema::Schema;
+ghost use mathlib.Core.Path.{_≡_};
+ghost use Rattle.meaning.specs.Judge.{judgeMapping};
+ghost use Rattle.schema.specs.Decoded.{schemaOf};
+ghost use Rattle.mapping.specs.Decoded.{emptyImage, emptyMapping, mappingOf, Short};
+ghost use Rattle.mapping.specs.Judged.{Schemas, testMapping, Says};
+
+// The image of an edge: edges of T, from the image of the edge's source on. Their number is a field of 4 bits.
+pub struct Image {
+    pub length: usize,
+    pub edges: [u8; 16],
+}
+
+impl Image {
+    // No edge.
+    pub fn empty() -> Image
+        ensures { λ r. ⌜ r ≡ emptyImage ⌝ }
+    {
+        Image {
+            length: 0,
+            edges: [0u8; 16],
+        }
+    }
+}
+
+// What a mapping sheet says, with the image of each path of S as a path number of T; fault is 0, or the number with which the sheet is sent back.
+pub struct Mapping {
+    pub fault: u8,
+    pub node: [u8; Mapping::NODES],
+    pub edge: [Image; Mapping::EDGES],
+    pub attribute: [u8; Mapping::ATTRIBUTES],
+    pub path: [u8; Mapping::PATHS],
+}
+
+impl Mapping {
+    pub const NODES: usize = Schema::NODES;
+
+    pub const EDGES: usize = Schema::EDGES;
+
+    pub const ATTRIBUTES: usize = Schema::ATTRIBUTES;
+
+    pub const PATHS: usize = Schema::PATHS;
+
+    pub const LIFTS: usize = 512;
+
+    // A sheet sent back with a number.
+    pub fn faulty(number: u8) -> Mapping
+        ensures { λ r. ⌜ r ≡ emptyMapping number ⌝ }
+    {
+        let none = Image::empty();
+        Mapping {
+            fault: number,
+            node: [0u8; Mapping::NODES],
+            edge: [none; Mapping::EDGES],
+            attribute: [0u8; Mapping::ATTRIBUTES],
+            path: [0u8; Mapping::PATHS],
+        }
+    }
+}
+
+// Tests 7 and 8.
+fn tested(s: Schema, t: Schema, sp: Paths, tp: Paths, m: Mapping) -> Mapping
+    requires { ⌜ Schemas s t sp tp × Short (s .graph .edges) (m .edge) ⌝ }
+    ensures { λ r. ⌜ Says s t sp r (testMapping (schemaOf s) (schemaOf t) (mappingOf s m)) ⌝ }
+{
+    if fits::images_fit(s, t, m) {
+        let path = images::path_images(s, t, sp, tp, m);
+        let class = tp.class;
+        if images::sides_agree(s, sp, &path, &class) {
+            let node = m.node;
+            let edge = m.edge;
+            let attribute = m.attribute;
+            return Mapping {
+                fault: 0,
+                node: node,
+                edge: edge,
+                attribute: attribute,
+                path: path,
+            };
+        }
+        return Mapping::faulty(8);
+    }
+    Mapping::faulty(7)
+}
+
+// A mapping sheet judged, between two schemas with their tables of paths: what it says, or the first number that applies to it.
+pub fn judge_mapping(s: Schema, t: Schema, sp: Paths, tp: Paths, sheet: &[u8]) -> Mapping
+    requires { ⌜ Schemas s t sp tp ⌝ }
+    ensures { λ r. ⌜ Says s t sp r (judgeMapping (schemaOf s) (schemaOf t) (now (sheet .entry))) ⌝ }
+{
+    let m = decode::decode_mapping(s, sheet);
+    let fault = m.fault;
+    if fault == 0 {
+        return tested(s, t, sp, tp, m);
+    }
+    Mapping::faulty(fault)
+}
