@@ -1,0 +1,49 @@
+// Columns stored in a working array, number by number.
+use instance::follow::follow;
+use mapping::Image;
+ghost use Prim.Native.Nat.{_+_, _≤_};
+ghost use lib.ListN.{length, getD};
+ghost use Rattle.theory.specs.Instance as theory;
+ghost use Rattle.mapping.specs.Decoded.{imageOf};
+ghost use Rattle.instance.specs.Decoded.{rowsOf, Columns};
+ghost use Rattle.instance.specs.Followed.{linkIn};
+ghost use Rattle.delta.specs.Stored.{Counts, Leads, Stored};
+
+// For each of n nodes, the rows of the table at its image.
+pub fn count_column(n: usize, node: &[u8], counts: &[u32]) -> [u32; 16]
+    requires { ⌜ (n ≤ 16) × Columns n (now node) (now counts) ⌝ }
+    ensures { λ r. ⌜ Counts n (rowsOf (now (node .entry)) (now (counts .entry))) r ⌝ }
+{
+    let mut out = [0u32; 16];
+    let mut c = 0;
+    while c < n {
+        out[c] = counts[node[c] as usize];
+        c += 1;
+    }
+    out
+}
+
+// The row to which the edges of an image lead, for each of the first rows.
+pub fn follow_column(links: &[u32], image: Image, rows: usize, out: &mut [u32], base: usize)
+    requires { ⌜ (image .length ≤ 15) × Leads (now links) (imageOf image) rows × (base + rows ≤ length (now out)) ⌝ }
+    ensures { λ _. ⌜ Stored (theory.follow (linkIn (now (links .entry))) (imageOf image)) rows base (now (out .entry)) (now (out .exit)) ⌝ }
+{
+    let edges = image.edges;
+    let mut x = 0;
+    while x < rows {
+        out[base + x] = follow(links, &edges, image.length, x) as u32;
+        x += 1;
+    }
+}
+
+// A copy of n numbers of an array, from a place on.
+pub fn copy_column(l: &[u32], place: usize, n: usize, out: &mut [u32], base: usize)
+    requires { ⌜ (place + n ≤ length (now l)) × (base + n ≤ length (now out)) ⌝ }
+    ensures { λ _. ⌜ Stored (λ i. getD (now (l .entry)) (place + i) 0) n base (now (out .entry)) (now (out .exit)) ⌝ }
+{
+    let mut i = 0;
+    while i < n {
+        out[base + i] = l[place + i];
+        i += 1;
+    }
+}

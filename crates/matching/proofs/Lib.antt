@@ -1,0 +1,5 @@
+pub mod TableRows
+pub mod Comparing
+pub mod Copying
+pub mod Placing
+pub mod Transposing

@@ -1,0 +1,63 @@
+use Prim.Native.Nat.{_+_, _-_, _<_}
+use mathlib.Core.Path.{sym}
+use native.Mathlib.Omega.{arith}
+use lib.ListN.{length}
+use borrow.Author.Needs.{needs}
+use borrow.Author.Tests.{lt-ltb, le-ltb}
+use Rattle.meaning.proofs.Tabulate.{Passed, passed-start, passed-more, passed-fail, passed-done}
+use Rattle.matching.specs.Compared.{existsAt}
+use Rattle.matching.proofs.rows.partners_below.Statement.{statement}
+use Rattle.matching.proofs.rows.partners_below.Tie as tie
+
+abbrev Inv-loop : tie.InvT-loop
+Inv-loop list first n bound r₀ r = Passed (existsAt list first bound) n (λ k. k) r
+
+abbrev μ-loop : tie.MeasureT-loop
+μ-loop list first n bound r₀ r = n - r
+
+loop-holds : tie.Need-loop-holds Inv-loop μ-loop
+loop-holds c = passed-start _ _ _
+
+add-wide : tie.Need-add-wide Inv-loop μ-loop
+add-wide c = omega arith
+
+mul-wide : tie.Need-mul-wide Inv-loop μ-loop
+mul-wide c = let h : c .before .before .before .args .first + c .before .loop .r < length (c .before .before .before .args .list .now) = omega arith in search needs
+
+shared-slice-read-wide : tie.Need-shared-slice-read-wide Inv-loop μ-loop
+shared-slice-read-wide c = omega arith
+
+wide-requires : tie.Need-wide-requires Inv-loop μ-loop
+wide-requires c κs = search needs
+
+returns : tie.Need-returns Inv-loop μ-loop
+returns c = sym (passed-fail (c .before .before .before .before .loop .inv) (c .before .before .before .loop-test .taken) (le-ltb _ _ (rw (c .before .wide .ensures) at (c .if1 .taken))))
+
+add-r : tie.Need-add-r Inv-loop μ-loop
+add-r c = omega arith
+
+loop-less : tie.Need-loop-less Inv-loop μ-loop
+loop-less c = omega arith
+
+loop-again : tie.Need-loop-again Inv-loop μ-loop
+loop-again c = passed-more (c .before .before .before .before .loop .inv) (c .before .before .before .loop-test .taken) (lt-ltb _ _ (rw (c .before .wide .ensures) at (c .if1 .left)))
+
+returns-2 : tie.Need-returns-2 Inv-loop μ-loop
+returns-2 c = sym (passed-done (c .before .loop .inv) (c .loop-test .left))
+
+pub partners-below-spec : {M : Type 1} → statement M
+partners-below-spec =
+    tie.close
+    (tie.spec
+    Inv-loop
+    μ-loop
+    loop-holds
+    add-wide
+    mul-wide
+    shared-slice-read-wide
+    wide-requires
+    returns
+    add-r
+    loop-less
+    loop-again
+    returns-2)

@@ -1,0 +1,67 @@
+// The rows of one table with their partners. A list has the partners of a table's rows from a first place on, and a column stands in an array
+// from a base on.
+use instance::decode::wide;
+ghost use mathlib.Core.Path.{_≡_};
+ghost use Prim.Native.Nat.{_+_, _≤_};
+ghost use lib.ListN.{length};
+ghost use Rattle.matching.specs.Compared.{eachRow, existsAt, linkKept, valueKept, Paired, Targets};
+
+// Whether the partners of n rows are below a bound.
+pub fn partners_below(list: &[u32], first: usize, n: usize, bound: usize) -> bool
+    requires { ⌜ first + n ≤ length (now list) ⌝ }
+    ensures { λ r. ⌜ r ≡ eachRow n (existsAt (now (list .entry)) first bound) ⌝ }
+{
+    let mut r = 0;
+    while r < n {
+        if wide(list[first + r]) >= bound {
+            return false;
+        }
+        r += 1;
+    }
+    true
+}
+
+// Whether for each of n rows the partner of its target is the target of its partner: a and b have the links along one edge.
+pub fn links_agree(
+    list: &[u32],
+    source: usize,
+    target: usize,
+    a: &[u32],
+    b: &[u32],
+    base: usize,
+    n: usize,
+) -> bool
+    requires { ⌜ Paired (now list) source (now a) (now b) base n × Targets (now list) target (now a) base n ⌝ }
+    ensures { λ r. ⌜ r ≡ eachRow n (linkKept (now (list .entry)) source target (now (a .entry)) (now (b .entry)) base) ⌝ }
+{
+    let mut r = 0;
+    while r < n {
+        let x = wide(a[base + r]);
+        let y = wide(list[source + r]);
+        let p = list[target + x];
+        let q = b[base + y];
+        if p != q {
+            return false;
+        }
+        r += 1;
+    }
+    true
+}
+
+// Whether each of n rows has the value of its partner: a and b have the values of one attribute.
+pub fn values_agree(list: &[u32], first: usize, a: &[u32], b: &[u32], base: usize, n: usize) -> bool
+    requires { ⌜ Paired (now list) first (now a) (now b) base n ⌝ }
+    ensures { λ r. ⌜ r ≡ eachRow n (valueKept (now (list .entry)) first (now (a .entry)) (now (b .entry)) base) ⌝ }
+{
+    let mut r = 0;
+    while r < n {
+        let y = wide(list[first + r]);
+        let p = a[base + r];
+        let q = b[base + y];
+        if p != q {
+            return false;
+        }
+        r += 1;
+    }
+    true
+}
