@@ -1,0 +1,9 @@
+pub mod SheetParts
+pub mod Appending
+pub mod Series
+pub mod Digits
+pub mod Pieces
+pub mod Printing
+pub mod TextLength
+pub mod ArrayTexts
+pub mod WholeText

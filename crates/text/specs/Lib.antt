@@ -1,0 +1,4 @@
+pub mod Framed
+pub mod Appended
+pub mod Rows
+pub mod Written

@@ -1,0 +1,71 @@
+// Where the four sheets lie in the push program's input, each after its 16-bit byte length, most significant byte first.
+use schema::numbers::wide;
+ghost use mathlib.Core.Path.{_≡_};
+ghost use Prim.Native.Nat.{_+_, _≤_};
+ghost use lib.ListN.{length, drop};
+ghost use Rattle.meaning.specs.Program.{announced};
+ghost use Rattle.text.specs.Framed.{SheetFound, SheetsFound};
+
+// The bytes from start up to, not including, end.
+pub struct Part {
+    pub start: usize,
+    pub end: usize,
+}
+
+// The sheets S, T, mapping and run.
+pub struct Sheets {
+    pub s: Part,
+    pub t: Part,
+    pub mapping: Part,
+    pub run: Part,
+}
+
+// The byte length at a position.
+fn length_at(input: &[u8], at: usize) -> usize
+    requires { ⌜ at + 2 ≤ length (now input) ⌝ }
+    ensures { λ r. ⌜ r ≡ announced (drop at (now (input .entry))) ⌝ }
+{
+    256 * wide(input[at]) + wide(input[at + 1])
+}
+
+// The sheet after the byte length at a position, of which fewer than two bytes count as 0. The next byte length stands where the sheet ends.
+pub fn sheet_at(input: &[u8], at: usize) -> Part
+    requires { ⌜ at ≤ length (now input) ⌝ }
+    ensures { λ r. ⌜ SheetFound (now (input .entry)) at r ⌝ }
+{
+    let all = input.len();
+    if all - at < 2 {
+        return Part {
+            start: all,
+            end: all,
+        };
+    }
+    let start = at + 2;
+    let size = length_at(input, at);
+    if all - start < size {
+        return Part {
+            start: start,
+            end: all,
+        };
+    }
+    Part {
+        start: start,
+        end: start + size,
+    }
+}
+
+// The four sheets of an input.
+pub fn sheets_of(input: &[u8]) -> Sheets
+    ensures { λ r. ⌜ SheetsFound (now (input .entry)) r ⌝ }
+{
+    let s = sheet_at(input, 0);
+    let t = sheet_at(input, s.end);
+    let mapping = sheet_at(input, t.end);
+    let run = sheet_at(input, mapping.end);
+    Sheets {
+        s: s,
+        t: t,
+        mapping: mapping,
+        run: run,
+    }
+}
