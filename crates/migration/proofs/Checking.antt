@@ -1,0 +1,61 @@
+-- What judged sheets say together: the meanings of the checks, of the path question and of a mapping with its schemas.
+use Prim.Native.Nat.{ℕ}
+use mathlib.Core.Path.{_≡_, ap, _∙_}
+use mathlib.Core.List.{List}
+use Rattle.meaning.specs.Schema as meaning
+use Rattle.meaning.specs.PathEquality.{equal}
+use Rattle.meaning.specs.Judge.{judgeSchema, judgePath, judgeMapping, judgeInstance}
+use Rattle.meaning.specs.Calls.{Outcome, accepted, _>>=_, at, Migration, checkSchema, migration, checkInstance, samePath}
+use Rattle.schema.specs.declared.Schema.{Schema}
+use Rattle.schema.specs.declared.JudgedPath.{JudgedPath}
+use Rattle.schema.specs.Decoded.{graphOf, pathOf, schemaOf, judgedSchema}
+use Rattle.schema.specs.Judged.{judgedPath}
+use Rattle.instance.specs.declared.Instance.{Instance}
+use Rattle.instance.specs.Decoded.{tablesOf, judgedInstance}
+use Rattle.mapping.specs.declared.Mapping.{Mapping}
+use Rattle.mapping.specs.Decoded.{mappingOf, judgedMapping}
+use Rattle.migration.specs.declared.Refusal.{Refusal}
+use Rattle.migration.specs.Answers.{orNext, outcomeOf}
+use Rattle.migration.proofs.Refusing.{refusal, judged-at, then, yields, or-assoc}
+
+module _ (t : Schema) (s : List ℕ) (S : judgedSchema t ≡ judgeSchema s) where
+  schema-at : outcomeOf (refusal (t .fault) 1) (schemaOf t) ≡ at 1 (judgeSchema s)
+  schema-at = judged-at (t .fault) 1 (schemaOf t) S
+
+  pub schema-checked : outcomeOf (refusal (t .fault) 1) tt ≡ checkSchema s
+  schema-checked = yields (refusal (t .fault) 1) (schemaOf t) schema-at (λ _. tt)
+
+  pub instance-checked : (i : Instance) (links values e : List ℕ) → judgedInstance t i links values ≡ judgeInstance (schemaOf t) e → outcomeOf (orNext (refusal (t .fault) 1) (refusal (i .fault) 2)) tt ≡ checkInstance s e
+  instance-checked i links values e I =
+      then (refusal (t .fault) 1) (schemaOf t) schema-at (refusal (i .fault) 2) tt (λ S. do
+        _ ← at 2 (judgeInstance S e)
+        accepted tt)
+      (yields (refusal (i .fault) 2) (tablesOf t i links values) (judged-at (i .fault) 2 (tablesOf t i links values) I) (λ _. tt))
+
+  pub paths-compared : (a b : JudgedPath) (p q : List ℕ) → judgedPath a ≡ judgePath (graphOf (t .graph)) p → judgedPath b ≡ judgePath (graphOf (t .graph)) q
+      → outcomeOf (orNext (orNext (refusal (t .fault) 1) (refusal (a .fault) 2)) (refusal (b .fault) 3)) (equal (schemaOf t) (pathOf (a .path)) (pathOf (b .path))) ≡ samePath s p q
+  paths-compared a b p q P Q =
+      let answer = equal (schemaOf t) (pathOf (a .path)) (pathOf (b .path)) in
+      rw (or-assoc (refusal (t .fault) 1) (refusal (a .fault) 2) (refusal (b .fault) 3)) (
+      then (refusal (t .fault) 1) (schemaOf t) schema-at (orNext (refusal (a .fault) 2) (refusal (b .fault) 3)) answer (λ S. do
+        P ← at 2 (judgePath (S .graph) p)
+        Q ← at 3 (judgePath (S .graph) q)
+        accepted (equal S P Q))
+      (then (refusal (a .fault) 2) (pathOf (a .path)) (judged-at (a .fault) 2 (pathOf (a .path)) P) (refusal (b .fault) 3) answer (λ P. do
+        Q ← at 3 (judgePath (graphOf (t .graph)) q)
+        accepted (equal (schemaOf t) P Q))
+      (yields (refusal (b .fault) 3) (pathOf (b .path)) (judged-at (b .fault) 3 (pathOf (b .path)) Q) (λ Q. equal (schemaOf t) (pathOf (a .path)) Q))))
+
+  pub mapping-opened : (u : Schema) (m : Mapping) (z f : List ℕ) → judgedSchema u ≡ judgeSchema z → judgedMapping t m ≡ judgeMapping (schemaOf t) (schemaOf u) f
+      → outcomeOf (orNext (orNext (refusal (t .fault) 1) (refusal (u .fault) 2)) (refusal (m .fault) 3)) (record { S = schemaOf t; T = schemaOf u; F = mappingOf t m }) ≡ migration s z f
+  mapping-opened u m z f T F =
+      let result : Migration = record { S = schemaOf t; T = schemaOf u; F = mappingOf t m } in
+      rw (or-assoc (refusal (t .fault) 1) (refusal (u .fault) 2) (refusal (m .fault) 3)) (
+      then (refusal (t .fault) 1) (schemaOf t) schema-at (orNext (refusal (u .fault) 2) (refusal (m .fault) 3)) result (λ S. do
+        T ← at 2 (judgeSchema z)
+        F ← at 3 (judgeMapping S T f)
+        accepted (record { S = S; T = T; F = F }))
+      (then (refusal (u .fault) 2) (schemaOf u) (judged-at (u .fault) 2 (schemaOf u) T) (refusal (m .fault) 3) result (λ T. do
+        F ← at 3 (judgeMapping (schemaOf t) T f)
+        accepted (record { S = schemaOf t; T = T; F = F }))
+      (yields (refusal (m .fault) 3) (mappingOf t m) (judged-at (m .fault) 3 (mappingOf t m) F) (λ F. record { S = schemaOf t; T = schemaOf u; F = F }))))

@@ -1,0 +1,4 @@
+pub mod Refusing
+pub mod Checking
+pub mod Trays
+pub mod Migrating

@@ -1,0 +1,42 @@
+use mathlib.Core.Path.{_≡_, ap, _∙_}
+use Rattle.meaning.specs.Calls.{Outcome, Migrated, sheetOf, inTray}
+use borrow.Author.Needs.{needs}
+use Rattle.migration.proofs.migrate.delta.Statement.{statement}
+use Rattle.migration.proofs.migrate.delta.Tie as tie
+
+slice-aggregate-delta-tables : tie.Need-slice-aggregate-delta-tables
+slice-aggregate-delta-tables c = search needs
+
+slice-aggregate-delta-tables-2 : tie.Need-slice-aggregate-delta-tables-2
+slice-aggregate-delta-tables-2 c = search needs
+
+delta-tables-requires : tie.Need-delta-tables-requires
+delta-tables-requires c κs = search needs
+
+slice-aggregate-write-migrated : tie.Need-slice-aggregate-write-migrated
+slice-aggregate-write-migrated c = search needs
+
+slice-aggregate-write-migrated-2 : tie.Need-slice-aggregate-write-migrated-2
+slice-aggregate-write-migrated-2 c = search needs
+
+write-migrated-requires : tie.Need-write-migrated-requires
+write-migrated-requires c κs = search needs
+
+same-length : tie.Need-same-length
+same-length c = search needs
+
+returns : tie.Need-returns
+returns c = c .before .before .write-migrated .ensures ∙ ap (λ (o : Outcome Migrated). inTray (c .before .before .before .before .before .before .before .before .before .before .before .before .before .before .before .before .args .tray .now) (sheetOf o)) (c .before .before .before .before .before .before .before .before .delta-tables .ensures .says)
+
+pub delta-spec : {M : Type 1} → statement M
+delta-spec =
+    tie.close
+    (tie.spec
+    slice-aggregate-delta-tables
+    slice-aggregate-delta-tables-2
+    delta-tables-requires
+    slice-aggregate-write-migrated
+    slice-aggregate-write-migrated-2
+    write-migrated-requires
+    same-length
+    returns)

@@ -1,0 +1,56 @@
+use mathlib.Core.Path.{_≡_, sym, ap, _∙_}
+use Rattle.migration.specs.declared.Refusal.{Refusal}
+use Rattle.migration.specs.Answers.{orNext, outcomeOf}
+use Rattle.migration.specs.Opened.{migrationOf}
+use Rattle.migration.proofs.Refusing.{refusal, none-next}
+use Rattle.migration.proofs.Checking.{mapping-opened}
+use borrow.Author.Needs.{needs}
+use Rattle.migration.proofs.open.open.Statement.{statement}
+use Rattle.migration.proofs.open.open.Tie as tie
+
+judge-schema-requires : tie.Need-judge-schema-requires
+judge-schema-requires c κs = search needs
+
+judge-schema-requires-2 : tie.Need-judge-schema-requires-2
+judge-schema-requires-2 c κs = search needs
+
+path-table-requires : tie.Need-path-table-requires
+path-table-requires c κs = search needs
+
+path-table-requires-2 : tie.Need-path-table-requires-2
+path-table-requires-2 c κs = search needs
+
+judge-mapping-requires : tie.Need-judge-mapping-requires
+judge-mapping-requires c κs = search needs
+
+or-requires : tie.Need-or-requires
+or-requires c κs = search needs
+
+or-requires-2 : tie.Need-or-requires-2
+or-requires-2 c κs = search needs
+
+returns : tie.Need-returns
+returns c =
+    let source = c .before .before .before .before .before .before .judge-schema in
+    let target = c .before .before .before .before .before .judge-schema2 in
+    let m = c .before .before .judge-mapping in
+    let x = c .before .before .before .before .before .before .before .before .before .before .args in
+    let joined = c .or2 .ensures ∙ ap (λ (r : Refusal). orNext r (refusal (m .result .fault) 3)) (c .before .or .ensures) in
+    record {
+      says = ap (λ (r : Refusal). outcomeOf r (migrationOf (record { refusal = r; source = source .result; target = target .result; «source_paths» = c .before .before .before .before .path-table .result; «target_paths» = c .before .before .before .path-table2 .result; mapping = m .result }))) joined ∙ mapping-opened (source .result) (x .s .now) (source .ensures .says) (target .result) (m .result) (x .t .now) (x .f .now) (target .ensures .says) (m .ensures .says);
+      schemas = record { source = source .ensures .sound; target = target .ensures .sound; source-paths = c .before .before .before .before .path-table .ensures; target-paths = c .before .before .before .path-table2 .ensures };
+      sound = λ e. m .ensures .sound (none-next (orNext (refusal (source .result .fault) 1) (refusal (target .result .fault) 2)) (refusal (m .result .fault) 3) (ap (λ (r : Refusal). r .number) (sym joined) ∙ e));
+    }
+
+pub open-spec : {M : Type 1} → statement M
+open-spec =
+    tie.close
+    (tie.spec
+    judge-schema-requires
+    judge-schema-requires-2
+    path-table-requires
+    path-table-requires-2
+    judge-mapping-requires
+    or-requires
+    or-requires-2
+    returns)

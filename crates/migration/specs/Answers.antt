@@ -1,0 +1,62 @@
+-- What an answer says in the terms of document 01: the number and the values of each case of an enum.
+use Prim.Native.Nat.{ℕ, _+_, _*_}
+use mathlib.Core.Bool.{Bool, true, false, cond}
+use mathlib.Core.List.{List}
+use lib.Dec.{eqb}
+use Rattle.meaning.specs.Calls.{Outcome, refused, accepted, _>>=_, Lent}
+use Rattle.migration.specs.declared.Refusal.{Refusal}
+use Rattle.migration.specs.declared.Verdict.{Verdict}
+use Rattle.migration.specs.declared.Verdict.the-variants as verdict
+use Rattle.migration.specs.declared.Equality.{Equality}
+use Rattle.migration.specs.declared.Equality.the-variants as equality
+use Rattle.migration.specs.declared.Written.{Written}
+use Rattle.migration.specs.declared.Written.the-variants as written
+
+abbrev pub verdictOf : Verdict → Outcome (Unit {0})
+verdictOf verdict.Accepted = accepted tt
+verdictOf (verdict.Refused r) = refused (r .number) (r .place)
+
+abbrev pub equalityOf : Equality → Outcome Bool
+equalityOf equality.Equal = accepted true
+equalityOf equality.Unequal = accepted false
+equalityOf (equality.Refused r) = refused (r .number) (r .place)
+
+abbrev pub writtenOf : Written → Outcome ℕ
+writtenOf (written.Bytes n) = accepted n
+writtenOf (written.Refused r) = refused (r .number) (r .place)
+
+-- an answer and the tray that it leaves
+abbrev pub lentOf : Written → List ℕ → Lent
+lentOf r tray = record { answer = writtenOf r; tray = tray }
+
+-- ---- for C: an answer as one number
+
+abbrev pub encoded : Outcome ℕ → ℕ
+encoded (accepted n) = n
+encoded (refused n place) = 4294967296 + 256 * n + place
+
+-- an accepted check is 0
+abbrev pub checked : Outcome (Unit {0}) → Outcome ℕ
+checked o = do
+  _ ← o
+  accepted 0
+
+-- equal paths are 1, unequal ones 0
+abbrev pub answered : Outcome Bool → Outcome ℕ
+answered o = do
+  b ← o
+  accepted (cond b 1 0)
+
+-- a byte length, and the tray
+abbrev pub returned : Lent → ℕ × List ℕ
+returned l = (encoded (l .answer), l .tray)
+
+-- ---- inside the library: a refusal with the number 0 is none
+
+-- the first of two refusals
+abbrev pub orNext : Refusal → Refusal → Refusal
+orNext r next = cond (eqb (r .number) 0) next r
+
+module _ {A : Type 0} where
+  abbrev pub outcomeOf : Refusal → A → Outcome A
+  outcomeOf r a = cond (eqb (r .number) 0) (accepted a) (refused (r .number) (r .place))

@@ -1,0 +1,17 @@
+-- What the judges of S, T and the mapping give together.
+use Prim.Native.Nat.{ℕ}
+use mathlib.Core.Path.{_≡_}
+use Rattle.meaning.specs.Calls.{Outcome, Migration}
+use Rattle.schema.specs.Decoded.{schemaOf}
+use Rattle.mapping.specs.Decoded.{mappingOf}
+use Rattle.mapping.specs.Judged.{Schemas, Sound}
+use Rattle.migration.specs.declared.open.Opened.{Opened}
+use Rattle.migration.specs.Answers.{outcomeOf}
+
+abbrev pub migrationOf : Opened → Migration
+migrationOf o = record { S = schemaOf (o .source); T = schemaOf (o .target); F = mappingOf (o .source) (o .mapping) }
+
+pub record Opens (o : Opened) (M : Outcome Migration) : Type 0 where
+  pub says : outcomeOf (o .refusal) (migrationOf o) ≡ M
+  pub schemas : Schemas (o .source) (o .target) (o .«source_paths») (o .«target_paths»)
+  pub sound : (o .refusal .number ≡ 0 → Sound (o .source) (o .target) (o .«source_paths») (o .mapping))

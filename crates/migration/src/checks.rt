@@ -1,0 +1,81 @@
+// The checks of schemas, mappings and instances, and the path question.
+use crate::Equality;
+use crate::Refusal;
+use crate::Verdict;
+use crate::open::open;
+use instance::Instance;
+use instance::judge_instance;
+use schema::equal;
+use schema::judge_path;
+use schema::judge_schema;
+ghost use mathlib.Core.Path.{_≡_};
+ghost use Rattle.meaning.specs.Calls.{checkSchema, checkMapping, checkInstance, samePath};
+ghost use Rattle.migration.specs.Answers.{outcomeOf, verdictOf, equalityOf};
+
+fn verdict(refusal: Refusal) -> Verdict
+    ensures { λ r. ⌜ verdictOf r ≡ outcomeOf refusal tt ⌝ }
+{
+    if refusal.number == 0 {
+        return Verdict::Accepted;
+    }
+    Verdict::Refused(refusal)
+}
+
+// Whether s is a schema. Refuses with 1 to 6.
+pub fn check_schema(s: &[u8]) -> Verdict
+    ensures { λ r. ⌜ verdictOf r ≡ checkSchema (now (s .entry)) ⌝ }
+{
+    let schema = judge_schema(s);
+    verdict(Refusal {
+        number: schema.fault,
+        place: 1,
+    })
+}
+
+// Whether f is a mapping from the schema s to the schema t. Refuses with 1 to 6 at the places of s and t, and with 1, 2, 7 and 8 at that of f.
+pub fn check_mapping(s: &[u8], t: &[u8], f: &[u8]) -> Verdict
+    ensures { λ r. ⌜ verdictOf r ≡ checkMapping (now (s .entry)) (now (t .entry)) (now (f .entry)) ⌝ }
+{
+    let opened = open(s, t, f);
+    let refusal = opened.refusal;
+    verdict(refusal)
+}
+
+// Whether i is an instance of the schema s. Refuses with 1 to 6 at the place of s, and with 1, 2, 3, 9, 10 and 11 at that of i.
+pub fn check_instance(s: &[u8], i: &[u8]) -> Verdict
+    ensures { λ r. ⌜ verdictOf r ≡ checkInstance (now (s .entry)) (now (i .entry)) ⌝ }
+{
+    let mut links = [0u32; Instance::LINKS];
+    let mut values = [0u32; Instance::VALUES];
+    let schema = judge_schema(s);
+    let instance = judge_instance(schema, i, &mut links, &mut values);
+    let first = Refusal {
+        number: schema.fault,
+        place: 1,
+    };
+    verdict(first.or(instance.fault, 2))
+}
+
+// Whether the paths p and q of the schema s are equal. Refuses with 1 to 6 at the place of s, and with 1, 2 and 4 at those of p and q.
+pub fn same_path(s: &[u8], p: &[u8], q: &[u8]) -> Equality
+    ensures { λ r. ⌜ equalityOf r ≡ samePath (now (s .entry)) (now (p .entry)) (now (q .entry)) ⌝ }
+{
+    let schema = judge_schema(s);
+    let graph = schema.graph;
+    let a = judge_path(graph, p);
+    let b = judge_path(graph, q);
+    let first = Refusal {
+        number: schema.fault,
+        place: 1,
+    };
+    let refusal = first.or(a.fault, 2).or(b.fault, 3);
+    if refusal.number == 0 {
+        let left = a.path;
+        let right = b.path;
+        if equal(schema, left, right) {
+            return Equality::Equal;
+        }
+        return Equality::Unequal;
+    }
+    Equality::Refused(refusal)
+}

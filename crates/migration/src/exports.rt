@@ -1,0 +1,83 @@
+// The calls for C, a slice as its address and its length. An answer is one number: a result as itself (0 for an accepted check, 1 or 0 for
+// equal or unequal paths, a byte length), a refusal as 2^32 + 256 * number + place.
+use crate::Equality;
+use crate::Refusal;
+use crate::Verdict;
+use crate::Written;
+use crate::checks::check_instance;
+use crate::checks::check_mapping;
+use crate::checks::check_schema;
+use crate::checks::same_path;
+use crate::migrate::delta;
+ghost use mathlib.Core.Path.{_≡_};
+ghost use Rattle.meaning.specs.Calls.{refused, checkSchema, checkMapping, checkInstance, samePath, deltaTables, sheetOf, inTray};
+ghost use Rattle.migration.specs.Answers.{verdictOf, equalityOf, writtenOf, encoded, checked, answered, returned};
+
+fn refusal_number(refusal: Refusal) -> u64
+    ensures { λ r. ⌜ r ≡ encoded (refused (refusal .number) (refusal .place)) ⌝ }
+{
+    4294967296 + 256 * (refusal.number as u64) + refusal.place as u64
+}
+
+fn verdict_number(verdict: Verdict) -> u64
+    ensures { λ r. ⌜ r ≡ encoded (checked (verdictOf verdict)) ⌝ }
+{
+    match verdict {
+        Verdict::Accepted => 0,
+        Verdict::Refused(refusal) => refusal_number(refusal),
+    }
+}
+
+fn equality_number(equality: Equality) -> u64
+    ensures { λ r. ⌜ r ≡ encoded (answered (equalityOf equality)) ⌝ }
+{
+    match equality {
+        Equality::Equal => 1,
+        Equality::Unequal => 0,
+        Equality::Refused(refusal) => refusal_number(refusal),
+    }
+}
+
+fn written_number(written: Written) -> u64
+    ensures { λ r. ⌜ r ≡ encoded (writtenOf written) ⌝ }
+{
+    match written {
+        Written::Bytes(n) => n as u64,
+        Written::Refused(refusal) => refusal_number(refusal),
+    }
+}
+
+#[no_mangle]
+pub extern "C" fn migration_check_schema(s: &[u8]) -> u64
+    ensures { λ r. ⌜ r ≡ encoded (checked (checkSchema (now (s .entry)))) ⌝ }
+{
+    verdict_number(check_schema(s))
+}
+
+#[no_mangle]
+pub extern "C" fn migration_check_mapping(s: &[u8], t: &[u8], f: &[u8]) -> u64
+    ensures { λ r. ⌜ r ≡ encoded (checked (checkMapping (now (s .entry)) (now (t .entry)) (now (f .entry)))) ⌝ }
+{
+    verdict_number(check_mapping(s, t, f))
+}
+
+#[no_mangle]
+pub extern "C" fn migration_check_instance(s: &[u8], i: &[u8]) -> u64
+    ensures { λ r. ⌜ r ≡ encoded (checked (checkInstance (now (s .entry)) (now (i .entry)))) ⌝ }
+{
+    verdict_number(check_instance(s, i))
+}
+
+#[no_mangle]
+pub extern "C" fn migration_same_path(s: &[u8], p: &[u8], q: &[u8]) -> u64
+    ensures { λ r. ⌜ r ≡ encoded (answered (samePath (now (s .entry)) (now (p .entry)) (now (q .entry)))) ⌝ }
+{
+    equality_number(same_path(s, p, q))
+}
+
+#[no_mangle]
+pub extern "C" fn migration_delta(s: &[u8], t: &[u8], f: &[u8], j: &[u8], tray: &mut [u8]) -> u64
+    ensures { λ r. ⌜ (r, now (tray .exit)) ≡ returned (inTray (now (tray .entry)) (sheetOf (deltaTables (now (s .entry)) (now (t .entry)) (now (f .entry)) (now (j .entry))))) ⌝ }
+{
+    written_number(delta(s, t, f, j, &mut *tray))
+}

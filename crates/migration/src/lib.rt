@@ -1,0 +1,56 @@
+// Delta, Sigma, Pi and matchings on lent sheets. Every call takes sheets of any length and content, and answers with a result or with the
+// first refusal that applies.
+mod checks;
+mod exports;
+mod migrate;
+mod open;
+mod results;
+
+pub use checks::check_instance;
+pub use checks::check_mapping;
+pub use checks::check_schema;
+pub use checks::same_path;
+pub use migrate::delta;
+ghost use mathlib.Core.Path.{_≡_};
+ghost use Rattle.migration.specs.Answers.{orNext};
+
+// Why a call refuses: a number from 1 to 17 and the place of the sheet that it is about, counted from 1, or 0 for all sheets together.
+// Inside the library the number 0 is no refusal.
+pub struct Refusal {
+    pub number: u8,
+    pub place: u8,
+}
+
+impl Refusal {
+    // This refusal or, where it is none, the next.
+    fn or(self, number: u8, place: u8) -> Refusal
+        ensures { λ r. ⌜ r ≡ orNext self (record { number = number; place = place }) ⌝ }
+    {
+        if self.number == 0 {
+            return Refusal {
+                number: number,
+                place: place,
+            };
+        }
+        self
+    }
+}
+
+// The answer of a check.
+pub enum Verdict {
+    Accepted,
+    Refused(Refusal),
+}
+
+// The answer to the path question.
+pub enum Equality {
+    Equal,
+    Unequal,
+    Refused(Refusal),
+}
+
+// The answer of a call that writes its result into a lent tray: the result's byte length.
+pub enum Written {
+    Bytes(usize),
+    Refused(Refusal),
+}

@@ -1,0 +1,74 @@
+// The migrations, of lent sheets into a lent tray.
+use crate::Refusal;
+use crate::Written;
+use crate::open::open;
+use crate::results::Migrated;
+use crate::results::overfull;
+use crate::results::write_migrated;
+use instance::Instance;
+use instance::judge_instance;
+ghost use mathlib.Core.Path.{_≡_};
+ghost use Rattle.meaning.specs.Calls.{deltaTables, sheetOf, inTray};
+ghost use Rattle.instance.specs.Decoded.{Room};
+ghost use Rattle.migration.specs.Answers.{lentOf};
+ghost use Rattle.migration.specs.Migrated.{Migrates};
+
+// Delta's tables in working arrays.
+fn delta_tables(
+    s: &[u8],
+    t: &[u8],
+    f: &[u8],
+    j: &[u8],
+    links: &mut [u32],
+    values: &mut [u32],
+) -> Migrated
+    requires { ⌜ Room (now links) (now values) ⌝ }
+    ensures { λ r. ⌜ Migrates r (now (links .exit)) (now (values .exit)) (deltaTables (now (s .entry)) (now (t .entry)) (now (f .entry)) (now (j .entry))) ⌝ }
+{
+    let mut book_links = [0u32; Instance::LINKS];
+    let mut book_values = [0u32; Instance::VALUES];
+    let opened = open(s, t, f);
+    let source = opened.source;
+    let target = opened.target;
+    let book = judge_instance(target, j, &mut book_links, &mut book_values);
+    let first = opened.refusal;
+    let refusal = first.or(book.fault, 4);
+    if refusal.number == 0 {
+        let mapping = opened.mapping;
+        let tables = delta::delta(
+            source,
+            target,
+            mapping,
+            book,
+            &book_links,
+            &book_values,
+            &mut *links,
+            &mut *values,
+        );
+        let size = Refusal {
+            number: overfull(source, tables),
+            place: 0,
+        };
+        return Migrated {
+            refusal: size,
+            schema: source,
+            tables: tables,
+        };
+    }
+    Migrated {
+        refusal: refusal,
+        schema: source,
+        tables: book,
+    }
+}
+
+// Delta: writes the instance of s that the mapping f from s to t makes of the instance j of t. Refuses with 1 to 6 at the places of s and t,
+// with 1, 2, 7 and 8 at that of f, with 1, 2, 3, 9, 10 and 11 at that of j, and with 15 and 16 at place 0.
+pub fn delta(s: &[u8], t: &[u8], f: &[u8], j: &[u8], tray: &mut [u8]) -> Written
+    ensures { λ r. ⌜ lentOf r (now (tray .exit)) ≡ inTray (now (tray .entry)) (sheetOf (deltaTables (now (s .entry)) (now (t .entry)) (now (f .entry)) (now (j .entry)))) ⌝ }
+{
+    let mut links = [0u32; Instance::LINKS];
+    let mut values = [0u32; Instance::VALUES];
+    let migrated = delta_tables(s, t, f, j, &mut links, &mut values);
+    write_migrated(migrated, &links, &values, &mut *tray)
+}

@@ -1,0 +1,44 @@
+// The sheets of S, T and a mapping, which every migration opens first.
+use crate::Refusal;
+use mapping::Mapping;
+use mapping::judge_mapping;
+use schema::Paths;
+use schema::Schema;
+use schema::judge_schema;
+use schema::path_table;
+ghost use Rattle.meaning.specs.Calls.{migration};
+ghost use Rattle.migration.specs.Opened.{Opens};
+
+// What the three sheets say, where the refusal's number is 0. A schema that was sent back has no nodes.
+pub struct Opened {
+    pub refusal: Refusal,
+    pub source: Schema,
+    pub target: Schema,
+    pub source_paths: Paths,
+    pub target_paths: Paths,
+    pub mapping: Mapping,
+}
+
+// The sheets at places 1, 2 and 3, judged.
+pub fn open(s: &[u8], t: &[u8], f: &[u8]) -> Opened
+    ensures { λ r. ⌜ Opens r (migration (now (s .entry)) (now (t .entry)) (now (f .entry))) ⌝ }
+{
+    let source = judge_schema(s);
+    let target = judge_schema(t);
+    let source_paths = path_table(source);
+    let target_paths = path_table(target);
+    let mapping = judge_mapping(source, target, source_paths, target_paths, f);
+    let first = Refusal {
+        number: source.fault,
+        place: 1,
+    };
+    let refusal = first.or(target.fault, 2).or(mapping.fault, 3);
+    Opened {
+        refusal: refusal,
+        source: source,
+        target: target,
+        source_paths: source_paths,
+        target_paths: target_paths,
+        mapping: mapping,
+    }
+}

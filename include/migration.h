@@ -1,0 +1,71 @@
+/* Functorial data migration of inspection records: the calls of the static library libmigration.a.
+ *
+ * A sheet is a byte string, lent as a pointer and a length; it may have any length and any content, and it is never changed.
+ * A tray is where a result is written; a call that refuses changes no byte of it, and bytes beyond the result keep their values.
+ * A pointer may be null only where its length is 0. Two lent byte strings may overlap, unless one of them is a tray.
+ *
+ * Every call gives a 64-bit number:
+ *   below 2^32                      accepted: the byte length of the result; 0 for a check; for migration_same_path 1 equal, 0 unequal
+ *   2^32 + 256 * number + place     refused: number is the first that applies (below), place the sheet's, counted from 1 in the
+ *                                   order of the parameters; 0 where the condition is one of all sheets together
+ */
+#ifndef MIGRATION_H
+#define MIGRATION_H
+
+#include <stddef.h>
+#include <stdint.h>
+
+#ifdef __cplusplus
+extern "C" {
+#endif
+
+/* Why a sheet is sent back. */
+enum {
+    MIGRATION_CUT = 1,          /* the bits end before the last field does */
+    MIGRATION_TAIL = 2,         /* a filling bit is 1, or a byte follows */
+    MIGRATION_COUNT = 3,        /* a count, or the sum of the row counts, beyond its limit, or no node */
+    MIGRATION_STRAY = 4,        /* a missing node or edge is named, edges do not join, an equation's sides differ in start or end */
+    MIGRATION_RING = 5,         /* the edges form a loop */
+    MIGRATION_CROWD = 6,        /* more than 256 paths */
+    MIGRATION_MISFIT = 7,       /* an image is missing, does not join, has the wrong end, another kind or another node */
+    MIGRATION_BROKEN_RULE = 8,  /* an equation of S has unequal images in T */
+    MIGRATION_DANGLING = 9,     /* a target row at or beyond its table's count */
+    MIGRATION_OFF_SCALE = 10,   /* a value above its kind's largest */
+    MIGRATION_BENT_ROW = 11,    /* a row where the two sides of an equation lead to different rows */
+    MIGRATION_UNEVEN = 12,      /* Sigma, a checker or a turning, and the mapping is not even */
+    MIGRATION_UNPAIRED = 13,    /* Pi, and the attribute mapping is not a bijection */
+    MIGRATION_WIDE = 14,        /* Pi, and a table has more than 64 components */
+    MIGRATION_OVERFULL = 15,    /* a migrated instance has more than 512 rows */
+    MIGRATION_SMALL_TRAY = 16,  /* the result needs more bytes than were lent */
+    MIGRATION_NO_MATCH = 17     /* the list is not a matching */
+};
+
+/* A tray of this many bytes holds every instance sheet, and of this many every matching sheet. */
+enum { MIGRATION_INSTANCE_BYTES = 51220, MIGRATION_MATCHING_BYTES = 576 };
+
+/* Taking an answer apart. */
+static inline int migration_accepted(uint64_t answer) { return answer >> 32 == 0; }
+static inline unsigned migration_number(uint64_t answer) { return (unsigned)(answer >> 8 & 0xff); }
+static inline unsigned migration_place(uint64_t answer) { return (unsigned)(answer & 0xff); }
+
+/* A schema sheet, place 1. */
+uint64_t migration_check_schema(const uint8_t *s, size_t s_len);
+
+/* Schemas S and T (places 1, 2) and a mapping from S to T (place 3). */
+uint64_t migration_check_mapping(const uint8_t *s, size_t s_len, const uint8_t *t, size_t t_len, const uint8_t *f, size_t f_len);
+
+/* A schema (place 1) and an instance of it (place 2). */
+uint64_t migration_check_instance(const uint8_t *s, size_t s_len, const uint8_t *i, size_t i_len);
+
+/* Whether two paths (places 2, 3) of a schema (place 1) are equal. */
+uint64_t migration_same_path(const uint8_t *s, size_t s_len, const uint8_t *p, size_t p_len, const uint8_t *q, size_t q_len);
+
+/* Delta along a mapping from S to T (places 1 to 3) of an instance of T (place 4): an instance sheet of S, written to the tray. */
+uint64_t migration_delta(const uint8_t *s, size_t s_len, const uint8_t *t, size_t t_len, const uint8_t *f, size_t f_len,
+                         const uint8_t *j, size_t j_len, uint8_t *tray, size_t tray_len);
+
+#ifdef __cplusplus
+}
+#endif
+
+#endif
