@@ -1,0 +1,91 @@
+//! The calls on document 01's base example: both forms agree, a refused call
+//! changes no lent byte, and bytes beyond the result keep their values.
+
+use migration::*;
+
+const S: [u8; 7] = [0x18, 0x42, 0x00, 0x04, 0x84, 0x04, 0x84];
+const T: [u8; 5] = [0x10, 0x21, 0x00, 0x04, 0x04];
+const F: [u8; 5] = [0x01, 0x01, 0x00, 0x80, 0x00];
+/// T to itself, everything to itself.
+const SAME: [u8; 3] = [0x01, 0x10, 0x00];
+const RUN: [u8; 20] = [
+    0x00, 0x80, 0x20, 0x04, 0x02, 0x00, 0x00, 0x80, 0x00, 0x01, //
+    0x5E, 0x00, 0x00, 0x00, 0x96, 0x00, 0x00, 0x01, 0x60, 0x80,
+];
+const BOOK: [u8; 18] = [
+    0x00, 0xC0, 0x20, 0x00, 0x04, 0x02, 0x00, 0x00, 0x02, //
+    0x58, 0x00, 0x00, 0x05, 0x82, 0x00, 0x00, 0x05, 0x78,
+];
+const PUSHED: [u8; 6] = [0x01, 0x00, 0x00, 0x20, 0x00, 0x08];
+const RAW: [u8; 6] = [0x01, 0x00, 0x00, 0x00, 0x10, 0x08];
+
+/// A call that fills a tray.
+type Fill<'a> = &'a dyn Fn(&mut [u8]) -> Result<usize, Refusal>;
+
+fn refused<T>(number: u8, place: u8) -> Result<T, Refusal> {
+    Err(Refusal { number, place })
+}
+
+/// The form with a tray gives what the other form gives, in every tray that
+/// holds it, and 16 in every smaller one.
+fn forms_agree(whole: Result<Vec<u8>, Refusal>, fill: Fill) {
+    let sheet = whole.unwrap();
+    for size in 0..sheet.len() + 3 {
+        let mut tray = vec![0xEE; size];
+        let filled = fill(&mut tray);
+        if size < sheet.len() {
+            assert_eq!(filled, refused(16, 0));
+            assert!(tray.iter().all(|&byte| byte == 0xEE));
+        } else {
+            assert_eq!(filled, Ok(sheet.len()));
+            assert_eq!(tray[..sheet.len()], sheet[..]);
+            assert!(tray[sheet.len()..].iter().all(|&byte| byte == 0xEE));
+        }
+    }
+}
+
+#[test]
+fn both_forms_of_each_call_agree() {
+    forms_agree(delta(&S, &T, &F, &BOOK), &|tray| delta_into(&S, &T, &F, &BOOK, tray));
+    forms_agree(sigma(&S, &T, &F, &RUN), &|tray| sigma_into(&S, &T, &F, &RUN, tray));
+    forms_agree(pi(&T, &T, &SAME, &BOOK), &|tray| pi_into(&T, &T, &SAME, &BOOK, tray));
+    forms_agree(pushed_to_raw(&S, &T, &F, &RUN, &BOOK, &PUSHED), &|tray| {
+        pushed_to_raw_into(&S, &T, &F, &RUN, &BOOK, &PUSHED, tray)
+    });
+    forms_agree(raw_to_pushed(&S, &T, &F, &RUN, &BOOK, &RAW), &|tray| {
+        raw_to_pushed_into(&S, &T, &F, &RUN, &BOOK, &RAW, tray)
+    });
+}
+
+#[test]
+fn the_base_example_is_accepted() {
+    assert_eq!(check_schema(&S), Ok(()));
+    assert_eq!(check_mapping(&S, &T, &F), Ok(()));
+    assert_eq!(check_instance(&S, &RUN), Ok(()));
+    assert_eq!(check_pushed(&S, &T, &F, &RUN, &BOOK, &PUSHED), Ok(()));
+    assert_eq!(check_raw(&S, &T, &F, &RUN, &BOOK, &RAW), Ok(()));
+    assert_eq!(pushed_to_raw(&S, &T, &F, &RUN, &BOOK, &PUSHED), Ok(RAW.to_vec()));
+    assert_eq!(raw_to_pushed(&S, &T, &F, &RUN, &BOOK, &RAW), Ok(PUSHED.to_vec()));
+}
+
+#[test]
+fn each_place_is_told() {
+    let none: [u8; 0] = [];
+    assert_eq!(sigma(&none, &T, &F, &RUN), refused(1, 1));
+    assert_eq!(sigma(&S, &none, &F, &RUN), refused(1, 2));
+    assert_eq!(sigma(&S, &T, &none, &RUN), refused(1, 3));
+    assert_eq!(sigma(&S, &T, &F, &none), refused(1, 4));
+    assert_eq!(check_pushed(&S, &T, &F, &RUN, &none, &PUSHED), refused(1, 5));
+    assert_eq!(check_pushed(&S, &T, &F, &RUN, &BOOK, &none), refused(1, 6));
+    assert_eq!(check_pushed(&S, &T, &F, &RUN, &BOOK, &RAW), refused(17, 6));
+    assert_eq!(same_path(&S, &none, &[0x00]), refused(1, 2));
+    assert_eq!(same_path(&S, &[0x00], &none), refused(1, 3));
+    assert_eq!(check_instance(&S, &none), refused(1, 2));
+}
+
+#[test]
+fn a_refusal_is_an_error_with_a_text() {
+    let refusal: Box<dyn std::error::Error> = Box::new(pi(&S, &T, &F, &RUN).unwrap_err());
+    let text = "refused, 13 unpaired: Pi, and the attribute mapping is not a bijection";
+    assert_eq!(refusal.to_string(), text);
+}

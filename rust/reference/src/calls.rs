@@ -1,0 +1,199 @@
+//! The public calls.  "Sheets are judged in the order S, T, mapping, instance
+//! or instances, path or paths; of transposition's two instances the run over S
+//! comes first. ... Then 12, 13, 14, 15; then the matching sheet (1, 2, 17);
+//! last 16. A refusal is the number and the sheet's place counted from 1 (0 for
+//! 12 to 16)."
+
+use crate::instance::Instance;
+use crate::mapping::Mapping;
+use crate::matching::Matching;
+use crate::migrate;
+use crate::paths::Path;
+use crate::refusal::{Judged, Refusal, SMALL_TRAY};
+use crate::schema::Schema;
+
+/// A judgement with the place of the sheet it is about.
+fn at<T>(place: u8, judged: Judged<T>) -> Result<T, Refusal> {
+    judged.map_err(|number| Refusal { number, place })
+}
+
+/// Checks a schema sheet (place 1).
+pub fn check_schema(s: &[u8]) -> Result<(), Refusal> {
+    at(1, Schema::accept(s)).map(|_| ())
+}
+
+/// Checks a mapping sheet (place 3) of schema S to schema T.
+pub fn check_mapping(s: &[u8], t: &[u8], f: &[u8]) -> Result<(), Refusal> {
+    Mapped::accept(s, t, f).map(|_| ())
+}
+
+/// Checks an instance sheet (place 2) over a schema.
+pub fn check_instance(s: &[u8], i: &[u8]) -> Result<(), Refusal> {
+    let schema = at(1, Schema::accept(s))?;
+    at(2, Instance::accept(&schema, i)).map(|_| ())
+}
+
+/// "The path question takes a schema and two path sheets and yields yes or no."
+/// Paths with other starts or ends are unequal.
+pub fn same_path(s: &[u8], p: &[u8], q: &[u8]) -> Result<bool, Refusal> {
+    let schema = at(1, Schema::accept(s))?;
+    let p = at(2, Path::accept(&schema, p))?;
+    let q = at(3, Path::accept(&schema, q))?;
+    Ok(p.equals(&schema, &q))
+}
+
+/// Delta of a T-instance (place 4): the result's whole sheet.
+pub fn delta(s: &[u8], t: &[u8], f: &[u8], j: &[u8]) -> Result<Vec<u8>, Refusal> {
+    let mapped = Mapped::accept(s, t, f)?;
+    let j = at(4, Instance::accept(&mapped.t, j))?;
+    mapped.delta(&j).map(|result| result.to_sheet())
+}
+
+/// Sigma of an S-instance (place 4): the result's whole sheet.
+pub fn sigma(s: &[u8], t: &[u8], f: &[u8], i: &[u8]) -> Result<Vec<u8>, Refusal> {
+    sigma_decoded(s, t, f, i).map(|(_, result)| result.to_sheet())
+}
+
+/// Sigma of an S-instance (place 4), decoded, with T.
+pub(crate) fn sigma_decoded(
+    s: &[u8],
+    t: &[u8],
+    f: &[u8],
+    i: &[u8],
+) -> Result<(Schema, Instance), Refusal> {
+    let mapped = Mapped::accept(s, t, f)?;
+    let i = at(4, Instance::accept(&mapped.s, i))?;
+    let result = mapped.sigma(&i)?;
+    Ok((mapped.t, result))
+}
+
+/// Pi of an S-instance (place 4): the result's whole sheet.
+pub fn pi(s: &[u8], t: &[u8], f: &[u8], i: &[u8]) -> Result<Vec<u8>, Refusal> {
+    let mapped = Mapped::accept(s, t, f)?;
+    let i = at(4, Instance::accept(&mapped.s, i))?;
+    let result = at(0, migrate::pi(&mapped.s, &mapped.t, &mapped.f, &i))?;
+    Ok(result.to_sheet())
+}
+
+/// The pushed side's checker: the list (place 6) is a matching from Sigma of
+/// the run (place 4) to the book (place 5).
+pub fn check_pushed(
+    s: &[u8],
+    t: &[u8],
+    f: &[u8],
+    run: &[u8],
+    book: &[u8],
+    list: &[u8],
+) -> Result<(), Refusal> {
+    Sides::accept(s, t, f, run, book)?.pushed_matching(list).map(|_| ())
+}
+
+/// The raw side's checker: the list (place 6) is a matching from the run (place
+/// 4) to Delta of the book (place 5).
+pub fn check_raw(
+    s: &[u8],
+    t: &[u8],
+    f: &[u8],
+    run: &[u8],
+    book: &[u8],
+    list: &[u8],
+) -> Result<(), Refusal> {
+    Sides::accept(s, t, f, run, book)?.raw_matching(list).map(|_| ())
+}
+
+/// Turns a matching of the pushed side into one of the raw side: the result's
+/// whole sheet.
+pub fn pushed_to_raw(
+    s: &[u8],
+    t: &[u8],
+    f: &[u8],
+    run: &[u8],
+    book: &[u8],
+    list: &[u8],
+) -> Result<Vec<u8>, Refusal> {
+    let sides = Sides::accept(s, t, f, run, book)?;
+    let pushed = sides.pushed_matching(list)?;
+    Ok(pushed.to_raw(&sides.mapped.f, &sides.run).to_sheet())
+}
+
+/// Turns a matching of the raw side into one of the pushed side: the result's
+/// whole sheet.
+pub fn raw_to_pushed(
+    s: &[u8],
+    t: &[u8],
+    f: &[u8],
+    run: &[u8],
+    book: &[u8],
+    list: &[u8],
+) -> Result<Vec<u8>, Refusal> {
+    let sides = Sides::accept(s, t, f, run, book)?;
+    let raw = sides.raw_matching(list)?;
+    Ok(raw.to_pushed(&sides.mapped.t, &sides.mapped.f).to_sheet())
+}
+
+/// Writes a result into a lent tray: 16 at place 0 where "the result needs more
+/// bytes than were lent".  "No lent byte changes then. ... An accepted result
+/// gives its byte length; bytes beyond it keep their values."
+pub fn into_tray(result: Result<Vec<u8>, Refusal>, tray: &mut [u8]) -> Result<usize, Refusal> {
+    let sheet = result?;
+    let room = tray.get_mut(..sheet.len()).ok_or(SMALL_TRAY);
+    at(0, room)?.copy_from_slice(&sheet);
+    Ok(sheet.len())
+}
+
+/// Accepted S, T and mapping: places 1 to 3 of most calls.
+struct Mapped {
+    s: Schema,
+    t: Schema,
+    f: Mapping,
+}
+
+impl Mapped {
+    fn accept(s: &[u8], t: &[u8], f: &[u8]) -> Result<Self, Refusal> {
+        let s = at(1, Schema::accept(s))?;
+        let t = at(2, Schema::accept(t))?;
+        let f = at(3, Mapping::accept(&s, &t, f))?;
+        Ok(Mapped { s, t, f })
+    }
+
+    fn delta(&self, j: &Instance) -> Result<Instance, Refusal> {
+        at(0, migrate::delta(&self.s, &self.f, j))
+    }
+
+    fn sigma(&self, i: &Instance) -> Result<Instance, Refusal> {
+        at(0, migrate::sigma(&self.s, &self.t, &self.f, i))
+    }
+}
+
+/// The two sides of checkers and turnings: "The pushed side goes from Sigma's
+/// result to the book, the raw side from the run to Delta's result."
+struct Sides {
+    mapped: Mapped,
+    run: Instance,
+    book: Instance,
+    sigma_of_run: Instance,
+    delta_of_book: Instance,
+}
+
+impl Sides {
+    /// "Both checkers and both turnings take S, T, mapping, run, book, matching
+    /// and make the same tests, 15 for either migrated table."
+    fn accept(s: &[u8], t: &[u8], f: &[u8], run: &[u8], book: &[u8]) -> Result<Self, Refusal> {
+        let mapped = Mapped::accept(s, t, f)?;
+        let run = at(4, Instance::accept(&mapped.s, run))?;
+        let book = at(5, Instance::accept(&mapped.t, book))?;
+        let sigma_of_run = mapped.sigma(&run)?;
+        let delta_of_book = mapped.delta(&book)?;
+        Ok(Sides { mapped, run, book, sigma_of_run, delta_of_book })
+    }
+
+    /// The list as a matching of the pushed side: 1, 2, 17 at place 6.
+    fn pushed_matching(&self, list: &[u8]) -> Result<Matching, Refusal> {
+        at(6, Matching::accept(&self.mapped.t, &self.sigma_of_run, &self.book, list))
+    }
+
+    /// The list as a matching of the raw side: 1, 2, 17 at place 6.
+    fn raw_matching(&self, list: &[u8]) -> Result<Matching, Refusal> {
+        at(6, Matching::accept(&self.mapped.s, &self.run, &self.delta_of_book, list))
+    }
+}

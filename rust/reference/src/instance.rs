@@ -1,0 +1,134 @@
+//! Typed instances of a schema: the rows of each table, where each link leads,
+//! and the value in each column.
+
+use crate::bits::{BitReader, BitWriter};
+use crate::paths::Path;
+use crate::refusal::{demand, Judged, BENT_ROW, COUNT, DANGLING, OFF_SCALE, OVERFULL};
+use crate::schema::{Equation, Schema};
+
+/// "Kinds and largest value (smallest 0)", by kind.
+pub const LARGEST_VALUES: [u32; 16] = [
+    4294967295, // 0 plain
+    4294967295, // 1 station in mm
+    719,        // 2 clock in minutes
+    1000,       // 3 depth in thousandths of wall
+    20000,      // 4 length mm
+    5000,       // 5 width mm
+    5000,       // 6 wall in 0.01 mm
+    1600,       // 7 diameter mm
+    25000,      // 8 pressure kPa
+    4000,       // 9 temperature 0.1 K
+    65535,      // 10 day
+    86399,      // 11 second of day
+    10000,      // 12 speed mm/s
+    4294967295, // 13 identifier
+    1,          // 14 flag
+    0,          // 15 unused
+];
+
+/// A decoded instance sheet.
+#[derive(Debug, Clone, PartialEq, Eq)]
+pub struct Instance {
+    /// Each table's row count.
+    pub rows: Vec<usize>,
+    /// For each edge, each source row's target row.
+    pub links: Vec<Vec<usize>>,
+    /// For each attribute, each row's value.
+    pub values: Vec<Vec<u32>>,
+}
+
+impl Instance {
+    /// "512 rows in all"
+    pub const MOST_ROWS: usize = 512;
+
+    /// Decodes and judges an instance sheet over an accepted schema: 1 in the
+    /// counts, 3, 1 in the rest, 2, then 9, 10 and 11, each over the whole
+    /// sheet.
+    pub fn accept(schema: &Schema, sheet: &[u8]) -> Judged<Self> {
+        let instance = Self::read(schema, sheet)?;
+        demand(instance.has_all_targets(schema), DANGLING)?;
+        demand(instance.is_on_scale(schema), OFF_SCALE)?;
+        demand(instance.obeys_equations(schema), BENT_ROW)?;
+        Ok(instance)
+    }
+
+    /// "Instance: each table's row count 10; for each edge, each source row's
+    /// target row 9; for each attribute, each row's value 32."  Gives 1, 3 and
+    /// 2.
+    fn read(schema: &Schema, sheet: &[u8]) -> Judged<Self> {
+        let mut reader = BitReader::new(sheet);
+        let rows = reader.numbers(schema.nodes, 10)?;
+        demand(rows.iter().sum::<usize>() <= Self::MOST_ROWS, COUNT)?;
+        let mut links = Vec::new();
+        for edge in &schema.edges {
+            links.push(reader.numbers(rows[edge.source], 9)?);
+        }
+        let mut values = Vec::new();
+        for attribute in &schema.attributes {
+            values.push(read_values(&mut reader, rows[attribute.node])?);
+        }
+        reader.finish()?;
+        Ok(Instance { rows, links, values })
+    }
+
+    /// No "target row at or beyond its table's count".
+    fn has_all_targets(&self, schema: &Schema) -> bool {
+        let mut links = self.links.iter().zip(&schema.edges);
+        links.all(|(targets, edge)| targets.iter().all(|&row| row < self.rows[edge.target]))
+    }
+
+    /// No "value above its kind's largest".
+    fn is_on_scale(&self, schema: &Schema) -> bool {
+        let mut columns = self.values.iter().zip(&schema.attributes);
+        columns.all(|(values, attribute)| {
+            values.iter().all(|&value| value <= LARGEST_VALUES[attribute.kind])
+        })
+    }
+
+    /// No "row where the two sides of an equation lead to different rows".
+    fn obeys_equations(&self, schema: &Schema) -> bool {
+        schema.equations.iter().all(|equation| self.obeys(equation))
+    }
+
+    fn obeys(&self, equation: &Equation) -> bool {
+        let mut rows = 0..self.rows[equation.left.start];
+        rows.all(|row| self.follow(&equation.left, row) == self.follow(&equation.right, row))
+    }
+
+    /// The row that a path leads to from a row of its start's table.
+    pub fn follow(&self, path: &Path, row: usize) -> usize {
+        path.edges.iter().fold(row, |row, &edge| self.links[edge][row])
+    }
+
+    /// The number of rows of all tables together.
+    pub fn total_rows(&self) -> usize {
+        self.rows.iter().sum()
+    }
+
+    /// This migrated instance, or 15 where it "has more than 512 rows".
+    pub fn unless_overfull(self) -> Judged<Self> {
+        demand(self.total_rows() <= Self::MOST_ROWS, OVERFULL)?;
+        Ok(self)
+    }
+
+    /// The instance sheet.  A number too large for its field is written by its
+    /// low bits.
+    pub fn to_sheet(&self) -> Vec<u8> {
+        let mut writer = BitWriter::new();
+        for &count in &self.rows {
+            writer.number(10, count);
+        }
+        for &target in self.links.iter().flatten() {
+            writer.number(9, target);
+        }
+        for &value in self.values.iter().flatten() {
+            writer.field(32, value);
+        }
+        writer.finish()
+    }
+}
+
+/// The values of one column.
+fn read_values(reader: &mut BitReader, count: usize) -> Judged<Vec<u32>> {
+    (0..count).map(|_| reader.field(32)).collect()
+}

@@ -1,0 +1,47 @@
+//! A naive reference implementation of document 01, "Delta, Sigma and Pi for
+//! inspection run records".
+//!
+//! It is written from the definitions, clarity before speed: equal paths are
+//! found by searching chains of steps, evenness is tested over all paths, and
+//! the rows of Pi are listed as families.  It serves as the other
+//! implementation against which results are compared.
+//!
+//! The calls take sheets as byte slices, in the order in which document 01
+//! judges them.  The decoded types and their encoders are gathered in
+//! [`plain`].
+
+#![forbid(unsafe_code)]
+#![warn(missing_docs)]
+
+pub mod bits;
+pub mod calls;
+pub mod evenness;
+pub mod families;
+pub mod instance;
+pub mod mapping;
+pub mod matching;
+pub mod migrate;
+pub mod paths;
+pub mod program;
+pub mod refusal;
+pub mod schema;
+
+pub use calls::{
+    check_instance, check_mapping, check_pushed, check_raw, check_schema, delta, into_tray, pi,
+    pushed_to_raw, raw_to_pushed, same_path, sigma,
+};
+pub use program::push;
+pub use refusal::Refusal;
+
+/// The decoded sheets as plain types with public fields.
+///
+/// Schemas, paths, mappings, instances and matchings each have a `to_sheet`
+/// method that encodes them, whether or not the sheet would be accepted, and an
+/// `accept` function that decodes and judges a sheet.
+pub mod plain {
+    pub use crate::instance::{Instance, LARGEST_VALUES};
+    pub use crate::mapping::Mapping;
+    pub use crate::matching::Matching;
+    pub use crate::paths::Path;
+    pub use crate::schema::{Attribute, Edge, Equation, Schema};
+}

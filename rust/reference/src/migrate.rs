@@ -1,0 +1,192 @@
+//! "The three migrations": Delta, Sigma and Pi on accepted schemas, mappings
+//! and instances.
+
+use crate::evenness::Lifting;
+use crate::families::{Arrow, Diagram};
+use crate::instance::Instance;
+use crate::mapping::Mapping;
+use crate::paths::{Classes, Path};
+use crate::refusal::{demand, Judged, OVERFULL, UNEVEN, UNPAIRED, WIDE};
+use crate::schema::Schema;
+use std::collections::BTreeSet;
+
+/// "Delta: the table at node c of S is the T-instance's table at F(c), rows in
+/// the same order; an edge follows its image path; an attribute copies its
+/// image's column."  Gives 15.
+pub fn delta(s: &Schema, f: &Mapping, j: &Instance) -> Judged<Instance> {
+    let rows: Vec<usize> = f.nodes.iter().map(|&d| j.rows[d]).collect();
+    let link = |e: usize| {
+        let image = f.edge_image(s, e);
+        (0..j.rows[image.start]).map(|row| j.follow(&image, row)).collect()
+    };
+    let links = (0..s.edges.len()).map(link).collect();
+    let values = f.attributes.iter().map(|&b| j.values[b].clone()).collect();
+    Instance { rows, links, values }.unless_overfull()
+}
+
+/// "Sigma: the table at d is the joined list of the tables at all c with F(c) =
+/// d, c ascending, rows in order."  Gives 12 and 15.
+pub fn sigma(s: &Schema, t: &Schema, f: &Mapping, i: &Instance) -> Judged<Instance> {
+    let lifting = Lifting::new(s, t, f);
+    demand(lifting.is_even(), UNEVEN)?;
+    let pushing = Pushing { s, t, f, i, lifting };
+    let rows = (0..t.nodes).map(|d| f.fibre(d).iter().map(|&c| i.rows[c]).sum());
+    let links = (0..t.edges.len()).map(|e| pushing.link(e));
+    let values = (0..t.attributes.len()).map(|b| pushing.column(b));
+    let (rows, links, values) = (rows.collect(), links.collect(), values.collect());
+    Instance { rows, links, values }.unless_overfull()
+}
+
+/// Sigma of an instance I along an even mapping.
+struct Pushing<'a> {
+    s: &'a Schema,
+    t: &'a Schema,
+    f: &'a Mapping,
+    i: &'a Instance,
+    lifting: Lifting<'a>,
+}
+
+impl Pushing<'_> {
+    /// "A link follows the one path over its edge, and its target is numbered
+    /// by its place in the joined list."
+    fn link(&self, edge: usize) -> Vec<usize> {
+        let mut targets = Vec::new();
+        for c in self.f.fibre(self.t.edges[edge].source) {
+            let path = self.lifting.edge_lift(c, edge);
+            let end = path.end(self.s).expect("a lift joins up");
+            let first = self.first_place(end);
+            targets.extend((0..self.i.rows[c]).map(|row| first + self.i.follow(path, row)));
+        }
+        targets
+    }
+
+    /// The place of the first row from c in the joined list at F(c).
+    fn first_place(&self, c: usize) -> usize {
+        let fibre = self.f.fibre(self.f.nodes[c]).into_iter();
+        fibre.filter(|&before| before < c).map(|before| self.i.rows[before]).sum()
+    }
+
+    /// "An attribute copies, for the rows from c, the one column at c over it."
+    fn column(&self, attribute: usize) -> Vec<u32> {
+        let fibre = self.f.fibre(self.t.attributes[attribute].node).into_iter();
+        fibre.flat_map(|c| self.i.values[self.lifting.column_lift(c, attribute)].clone()).collect()
+    }
+}
+
+/// "a table has more than 64 components" is refused.
+pub const MOST_COMPONENTS: usize = 64;
+
+/// "A row is one row of I(c) per component"; see [`crate::families`].  Gives
+/// 13, 14 and 15, the 14 of any table before the 15 of any.
+pub fn pi(s: &Schema, t: &Schema, f: &Mapping, i: &Instance) -> Judged<Instance> {
+    demand(f.pairs_attributes(t), UNPAIRED)?;
+    let gathering = Gathering { s, t, f, i, classes: Classes::of(t) };
+    let tables: Vec<Vec<Component>> = (0..t.nodes).map(|d| gathering.components(d)).collect();
+    demand(tables.iter().all(|table| table.len() <= MOST_COMPONENTS), WIDE)?;
+    let families = gathering.families(&tables)?;
+    let rows = families.iter().map(Vec::len).collect();
+    let links = (0..t.edges.len()).map(|e| gathering.link(e, &tables, &families)).collect();
+    let columns = 0..t.attributes.len();
+    let values = columns.map(|b| gathering.column(b, &tables, &families)).collect();
+    Ok(Instance { rows, links, values })
+}
+
+/// "a component at d is a node c with a class of equal paths from d to F(c),
+/// ordered by c and then by the class's first path".
+#[derive(Debug, Clone, Copy, PartialEq, Eq, PartialOrd, Ord)]
+struct Component {
+    node: usize,
+    class: usize,
+}
+
+/// The families of one table: each has one row per component.
+type Families = Vec<Vec<usize>>;
+
+/// Pi of an instance I along an accepted mapping.
+struct Gathering<'a> {
+    s: &'a Schema,
+    t: &'a Schema,
+    f: &'a Mapping,
+    i: &'a Instance,
+    classes: Classes,
+}
+
+impl Gathering<'_> {
+    /// The components at d, in order.
+    fn components(&self, d: usize) -> Vec<Component> {
+        let mut components = Vec::new();
+        for node in 0..self.s.nodes {
+            let ends_here = |g: &&Path| g.end(self.t) == Some(self.f.nodes[node]);
+            let paths = self.classes.from(d).filter(ends_here);
+            let classes: BTreeSet<usize> = paths.map(|g| self.classes.class(g)).collect();
+            components.extend(classes.into_iter().map(|class| Component { node, class }));
+        }
+        components
+    }
+
+    /// The families of all tables; 15 as soon as they are more than 512.
+    fn families(&self, tables: &[Vec<Component>]) -> Judged<Vec<Families>> {
+        let mut families = Vec::new();
+        let mut free = Instance::MOST_ROWS;
+        for table in tables {
+            let found = self.diagram(table).families(free).ok_or(OVERFULL)?;
+            free -= found.len();
+            families.push(found);
+        }
+        Ok(families)
+    }
+
+    /// The components of one table and the S-edges between them.
+    fn diagram(&self, table: &[Component]) -> Diagram {
+        let sizes = table.iter().map(|component| self.i.rows[component.node]).collect();
+        let mut arrows = Vec::new();
+        for (from, component) in table.iter().enumerate() {
+            for edge in self.s.edges_from(component.node) {
+                let to = place(table, self.carried(*component, edge));
+                arrows.push(Arrow { from, to, carry: self.i.links[edge].clone() });
+            }
+        }
+        Diagram { sizes, arrows }
+    }
+
+    /// For the component (c, g) and an S-edge from c to c', the component
+    /// "(c', g followed by the edge's image)".
+    fn carried(&self, component: Component, edge: usize) -> Component {
+        let image = self.f.edge_image(self.s, edge);
+        let path = self.classes.first(component.class).followed_by(&image);
+        Component { node: self.s.edges[edge].target, class: self.classes.class(&path) }
+    }
+
+    /// "A link along e takes component (c, g) from (c, e followed by g)."
+    fn link(&self, e: usize, tables: &[Vec<Component>], families: &[Families]) -> Vec<usize> {
+        let edge = self.t.edges[e];
+        let after_e = |component: &Component| {
+            let g = self.classes.first(component.class);
+            let path = Path::along(self.t, e).followed_by(g);
+            Component { node: component.node, class: self.classes.class(&path) }
+        };
+        let sources = tables[edge.target].iter().map(after_e);
+        let places: Vec<usize> = sources.map(|c| place(&tables[edge.source], c)).collect();
+        let target = |family: &Vec<usize>| {
+            let taken: Vec<usize> = places.iter().map(|&k| family[k]).collect();
+            place(&families[edge.target], taken)
+        };
+        families[edge.source].iter().map(target).collect()
+    }
+
+    /// "An attribute is read at the component with its S-node and the trivial
+    /// path."
+    fn column(&self, b: usize, tables: &[Vec<Component>], families: &[Families]) -> Vec<u32> {
+        let d = self.t.attributes[b].node;
+        let over = self.f.attributes_over(b);
+        let a = *over.first().expect("a bijection has an attribute over each");
+        let class = self.classes.class(&Path::trivial(d));
+        let k = place(&tables[d], Component { node: self.s.attributes[a].node, class });
+        families[d].iter().map(|family| self.i.values[a][family[k]]).collect()
+    }
+}
+
+/// The place of something that stands in an ordered list.
+fn place<T: Ord>(list: &[T], wanted: T) -> usize {
+    list.binary_search(&wanted).expect("it stands in the list by construction")
+}

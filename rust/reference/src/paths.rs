@@ -1,0 +1,227 @@
+//! Paths and their equality: "A path is a start node and a list of edges that
+//! join up; length 0 is the trivial path."
+
+use crate::bits::{BitReader, BitWriter};
+use crate::refusal::{Judged, STRAY};
+use crate::schema::Schema;
+use std::cmp::Ordering;
+use std::collections::{BTreeMap, BTreeSet, VecDeque};
+
+/// A start node and a list of edges; a path of a schema if they join up there.
+#[derive(Debug, Clone, PartialEq, Eq)]
+pub struct Path {
+    /// The start node.
+    pub start: usize,
+    /// The edges' numbers from the left.
+    pub edges: Vec<usize>,
+}
+
+/// "Paths are ordered by length, then start node, then edge numbers from the
+/// left."
+impl Ord for Path {
+    fn cmp(&self, other: &Self) -> Ordering {
+        let by_length = self.edges.len().cmp(&other.edges.len());
+        let by_start = self.start.cmp(&other.start);
+        by_length.then(by_start).then_with(|| self.edges.cmp(&other.edges))
+    }
+}
+
+impl PartialOrd for Path {
+    fn partial_cmp(&self, other: &Self) -> Option<Ordering> {
+        Some(self.cmp(other))
+    }
+}
+
+impl Path {
+    /// The path of length 0 at `node`.
+    pub fn trivial(node: usize) -> Self {
+        Path { start: node, edges: Vec::new() }
+    }
+
+    /// The path of length 1 along an edge of `schema`.
+    pub fn along(schema: &Schema, edge: usize) -> Self {
+        Path { start: schema.edges[edge].source, edges: vec![edge] }
+    }
+
+    /// This path followed by the edges of `next`.
+    pub fn followed_by(&self, next: &Path) -> Self {
+        let mut edges = self.edges.clone();
+        edges.extend(&next.edges);
+        Path { start: self.start, edges }
+    }
+
+    /// The end node; none if the path "names a missing node or edge" or its
+    /// "edges do not join".
+    pub fn end(&self, schema: &Schema) -> Option<usize> {
+        let mut node = self.start;
+        for &number in &self.edges {
+            let edge = schema.edges.get(number)?;
+            if edge.source != node {
+                return None;
+            }
+            node = edge.target;
+        }
+        (self.start < schema.nodes && node < schema.nodes).then_some(node)
+    }
+
+    /// Decodes and judges a path sheet over an accepted schema: 1, 2, 4.
+    pub fn accept(schema: &Schema, sheet: &[u8]) -> Judged<Self> {
+        let mut reader = BitReader::new(sheet);
+        let path = Path::read_field(&mut reader)?;
+        reader.finish()?;
+        path.end(schema).ok_or(STRAY)?;
+        Ok(path)
+    }
+
+    /// "Path: start 4, length 4, edges 5 each."
+    pub(crate) fn read_field(reader: &mut BitReader) -> Judged<Self> {
+        let start = reader.number(4)?;
+        let edges = read_edges(reader)?;
+        Ok(Path { start, edges })
+    }
+
+    /// Writes the path's fields.
+    pub(crate) fn write_field(&self, writer: &mut BitWriter) {
+        writer.number(4, self.start);
+        write_edges(writer, &self.edges);
+    }
+
+    /// The path sheet.  A number too large for its field is written by its low
+    /// bits.
+    pub fn to_sheet(&self) -> Vec<u8> {
+        let mut writer = BitWriter::new();
+        self.write_field(&mut writer);
+        writer.finish()
+    }
+
+    /// The node that the path has reached after `place` of its edges.
+    fn node_after(&self, schema: &Schema, place: usize) -> usize {
+        match place {
+            0 => self.start,
+            _ => schema.edges[self.edges[place - 1]].target,
+        }
+    }
+
+    /// Whether `side` stands inside this path after `place` of its edges.
+    fn has_inside(&self, schema: &Schema, place: usize, side: &Path) -> bool {
+        self.node_after(schema, place) == side.start && self.edges[place..].starts_with(&side.edges)
+    }
+
+    /// This path with `new` in the stead of `old`, which stands after `place`
+    /// of its edges.
+    fn replaced(&self, place: usize, old: &Path, new: &Path) -> Path {
+        let mut edges = self.edges[..place].to_vec();
+        edges.extend(&new.edges);
+        edges.extend(&self.edges[place + old.edges.len()..]);
+        Path { start: self.start, edges }
+    }
+
+    /// The paths that one step leads to: "a step replaces one side of an
+    /// equation, inside a path, by its other side."
+    fn steps(&self, schema: &Schema) -> Vec<Path> {
+        let mut found = Vec::new();
+        for equation in &schema.equations {
+            let (left, right) = (&equation.left, &equation.right);
+            for (old, new) in [(left, right), (right, left)] {
+                for place in 0..=self.edges.len() {
+                    if self.has_inside(schema, place, old) {
+                        found.push(self.replaced(place, old, new));
+                    }
+                }
+            }
+        }
+        found
+    }
+
+    /// All paths that a chain of steps leads to, this one included: a
+    /// breadth-first search.  The schema is an accepted one, so there are at
+    /// most 256 paths to find.
+    pub fn equal_paths(&self, schema: &Schema) -> BTreeSet<Path> {
+        let mut found = BTreeSet::from([self.clone()]);
+        let mut waiting = VecDeque::from([self.clone()]);
+        while let Some(path) = waiting.pop_front() {
+            for next in path.steps(schema) {
+                if found.insert(next.clone()) {
+                    waiting.push_back(next);
+                }
+            }
+        }
+        found
+    }
+
+    /// "Two paths are equal if a chain of steps leads from one to the other".
+    pub fn equals(&self, schema: &Schema, other: &Path) -> bool {
+        self.equal_paths(schema).contains(other)
+    }
+}
+
+/// A path's "length 4, edges 5 each", without its start.
+pub(crate) fn read_edges(reader: &mut BitReader) -> Judged<Vec<usize>> {
+    let length = reader.number(4)?;
+    reader.numbers(length, 5)
+}
+
+/// Writes "length 4, edges 5 each".
+pub(crate) fn write_edges(writer: &mut BitWriter, edges: &[usize]) {
+    writer.number(4, edges.len());
+    for &edge in edges {
+        writer.number(5, edge);
+    }
+}
+
+/// All paths of an accepted schema in their order, "trivial ones counted,
+/// unequal as lists".
+pub fn all_paths(schema: &Schema) -> Vec<Path> {
+    let mut paths = Vec::new();
+    let mut longest: Vec<Path> = (0..schema.nodes).map(Path::trivial).collect();
+    while !longest.is_empty() {
+        let longer = longest.iter().flat_map(|path| extensions(schema, path)).collect();
+        paths.append(&mut longest);
+        longest = longer;
+    }
+    paths
+}
+
+/// The paths with one edge more, by ascending last edge.
+fn extensions(schema: &Schema, path: &Path) -> Vec<Path> {
+    let end = path.node_after(schema, path.edges.len());
+    let last_edges = schema.edges_from(end).into_iter();
+    last_edges.map(|edge| path.followed_by(&Path::along(schema, edge))).collect()
+}
+
+/// All paths of an accepted schema, sorted into classes of equal paths.  A
+/// class is known by the number of its first path in the order of paths.
+pub struct Classes {
+    paths: Vec<Path>,
+    class_of: BTreeMap<Path, usize>,
+}
+
+impl Classes {
+    /// The classes of an accepted schema.
+    pub fn of(schema: &Schema) -> Self {
+        let paths = all_paths(schema);
+        let mut class_of = BTreeMap::new();
+        for (number, path) in paths.iter().enumerate() {
+            if !class_of.contains_key(path) {
+                let equal = path.equal_paths(schema).into_iter();
+                class_of.extend(equal.map(|same| (same, number)));
+            }
+        }
+        Classes { paths, class_of }
+    }
+
+    /// The class of a path of the schema.
+    pub fn class(&self, path: &Path) -> usize {
+        self.class_of[path]
+    }
+
+    /// A class's first path.
+    pub fn first(&self, class: usize) -> &Path {
+        &self.paths[class]
+    }
+
+    /// All paths with start `node`, in their order.
+    pub fn from(&self, node: usize) -> impl Iterator<Item = &Path> {
+        self.paths.iter().filter(move |path| path.start == node)
+    }
+}

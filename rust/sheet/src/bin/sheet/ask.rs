@@ -1,0 +1,182 @@
+//! Loading what a call is lent, and asking it.
+
+use crate::arguments::Arguments;
+use crate::failure::Failure;
+use crate::input::{is_standard_input, Inputs};
+use sheet::{Answer, Call, Question, Role, Schema};
+
+/// Loads what a call is lent, in the order of its places, and asks the call.
+///
+/// The call is asked after each file too, with nothing for the files to come:
+/// since it judges sheets in the order of their places, a sheet that it sends
+/// back then is the one it sends back in the end, and the files to come need
+/// not be read.
+pub fn ask(
+    command: &'static str,
+    call: Call,
+    words: &[String],
+    arguments: &Arguments,
+) -> Result<(Question, Answer), Failure> {
+    let mut inputs = Inputs::default();
+    let mut question = Question::new(call);
+    question.tray = arguments.tray;
+    for (place, (role, word)) in roles_of(command, call, words)?.into_iter().enumerate() {
+        lend(&mut question, role, word, &mut inputs)?;
+        if let Some(error) = question.misread_list() {
+            return Err(Failure::Text(vec![error]));
+        }
+        match question.ask() {
+            Err(refusal) if usize::from(refusal.place) <= place + 1 => {
+                return Err(refused(&question, refusal));
+            }
+            _ => {}
+        }
+    }
+    let answer = answer(&question)?;
+    Ok((question, answer))
+}
+
+/// Loads what a call is lent without asking it, but for a schema sheet that
+/// cannot be decoded.
+pub fn load(
+    command: &'static str,
+    call: Call,
+    words: &[String],
+    inputs: &mut Inputs,
+) -> Result<Question, Failure> {
+    let mut question = Question::new(call);
+    for (role, word) in roles_of(command, call, words)? {
+        lend(&mut question, role, word, inputs)?;
+    }
+    Ok(question)
+}
+
+/// A question about a single path: whether it equals itself.
+pub fn load_path(command: &'static str, words: &[String]) -> Result<Question, Failure> {
+    let [over, path] = words else {
+        let what = format!("expected SCHEMA PATH; {} given", words.len());
+        return Err(Failure::usage(command, what));
+    };
+    let mut inputs = Inputs::default();
+    let mut question = load(command, Call::CheckSchema, std::slice::from_ref(over), &mut inputs)?;
+    let lent = inputs.path(path, schema(&question, Role::S)?)?;
+    question.call = Call::SamePath;
+    question.first_path = Some(lent.clone());
+    question.second_path = Some(lent);
+    Ok(question)
+}
+
+/// The call's answer, or its refusal with the causes.
+pub fn answer(question: &Question) -> Result<Answer, Failure> {
+    question.ask().map_err(|refusal| refused(question, refusal))
+}
+
+fn refused(question: &Question, refusal: migration::Refusal) -> Failure {
+    Failure::Refused(Box::new(question.explain(refusal)))
+}
+
+/// Each word with its role.
+fn roles_of<'a>(
+    command: &'static str,
+    call: Call,
+    words: &'a [String],
+) -> Result<Vec<(Role, &'a str)>, Failure> {
+    let roles = call.roles();
+    if words.len() != roles.len() {
+        let expected: Vec<&str> = roles.iter().map(|&role| word_for(call, role)).collect();
+        let what = format!("expected {}; {} given", expected.join(" "), words.len());
+        return Err(Failure::usage(command, what));
+    }
+    let lent: Vec<(Role, &str)> =
+        roles.iter().copied().zip(words.iter().map(String::as_str)).collect();
+    if lent.iter().filter(|(role, word)| is_standard_input(*role, word)).count() > 1 {
+        return Err(Failure::usage(command, "standard input can be lent only once"));
+    }
+    Ok(lent)
+}
+
+/// Adds one file to what is lent.
+fn lend(
+    question: &mut Question,
+    role: Role,
+    word: &str,
+    inputs: &mut Inputs,
+) -> Result<(), Failure> {
+    match role {
+        Role::S => {
+            question.s = Some(inputs.schema(word)?);
+            schema(question, Role::S)?;
+        }
+        Role::T => {
+            question.t = Some(inputs.schema(word)?);
+            schema(question, Role::T)?;
+        }
+        Role::Mapping => {
+            let (s, t) = (schema(question, Role::S)?, schema(question, Role::T)?);
+            question.mapping = Some(inputs.mapping(word, s, t)?);
+        }
+        Role::Run => {
+            question.run = Some(inputs.instance(word, schema(question, Role::S)?)?);
+        }
+        Role::Book => {
+            question.book = Some(inputs.instance(word, schema(question, Role::T)?)?);
+        }
+        Role::FirstPath => {
+            question.first_path = Some(inputs.path(word, schema(question, Role::S)?)?);
+        }
+        Role::SecondPath => {
+            question.second_path = Some(inputs.path(word, schema(question, Role::S)?)?);
+        }
+        Role::List => {
+            let over = list_over(question.call);
+            question.list = Some(inputs.matching(word, schema(question, over)?)?);
+        }
+    }
+    Ok(())
+}
+
+/// The schema with a role; where its sheet cannot be decoded, the call's
+/// refusal of it.
+pub fn schema(question: &Question, role: Role) -> Result<&Schema, Failure> {
+    let lent = match role {
+        Role::T => &question.t,
+        _ => &question.s,
+    };
+    match lent.as_ref().map(|lent| &lent.schema) {
+        Some(Ok(schema)) => Ok(schema),
+        Some(Err(fault)) => Err(match question.ask() {
+            Err(refusal) => refused(question, refusal),
+            Ok(_) => Failure::Trouble(format!("an accepted schema sheet: {fault}")),
+        }),
+        None => Err(Failure::Trouble("a schema is missing".to_string())),
+    }
+}
+
+/// The role of the schema over whose tables a list stands.
+fn list_over(call: Call) -> Role {
+    match call {
+        Call::CheckPushed | Call::PushedToRaw => Role::T,
+        _ => Role::S,
+    }
+}
+
+/// What a word of the command line is called in usage messages.
+fn word_for(call: Call, role: Role) -> &'static str {
+    match (call, role) {
+        (Call::CheckSchema | Call::CheckInstance | Call::SamePath, Role::S) => "SCHEMA",
+        (Call::CheckInstance, Role::Run) => "INSTANCE",
+        (_, Role::S) => "S",
+        (_, Role::T) => "T",
+        (_, Role::Mapping) => "MAPPING",
+        (_, Role::Run) => "RUN",
+        (_, Role::Book) => "BOOK",
+        (_, Role::FirstPath | Role::SecondPath) => "PATH",
+        (_, Role::List) => "LIST",
+    }
+}
+
+/// A sheet that a call has accepted or given is always decoded; if not, the
+/// program and the library do not fit together.
+pub fn decoded<T, E: std::fmt::Display>(what: &str, result: Result<T, E>) -> Result<T, Failure> {
+    result.map_err(|fault| Failure::Trouble(format!("{what} cannot be decoded: {fault}")))
+}

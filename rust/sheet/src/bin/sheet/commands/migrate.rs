@@ -1,0 +1,59 @@
+//! `sheet delta`, `sheet sigma` and `sheet pi`
+
+use crate::arguments::Arguments;
+use crate::ask::{ask, decoded, schema};
+use crate::failure::Failure;
+use crate::output::{self, Target};
+use sheet::{aligned_tables, Answer, Call, Instance, Role, Schema};
+
+/// Pulls a book back.
+pub fn delta(arguments: &Arguments, words: &[String]) -> Result<(), Failure> {
+    run("delta", Call::Delta, Role::S, arguments, words)
+}
+
+/// Pushes a run by joining tables.
+pub fn sigma(arguments: &Arguments, words: &[String]) -> Result<(), Failure> {
+    run("sigma", Call::Sigma, Role::T, arguments, words)
+}
+
+/// Pushes a run by fitting choices.
+pub fn pi(arguments: &Arguments, words: &[String]) -> Result<(), Failure> {
+    run("pi", Call::Pi, Role::T, arguments, words)
+}
+
+fn run(
+    command: &'static str,
+    call: Call,
+    over: Role,
+    arguments: &Arguments,
+    words: &[String],
+) -> Result<(), Failure> {
+    let (question, answer) = ask(command, call, words, arguments)?;
+    let Answer::Sheet(sheet) = answer else {
+        return Err(Failure::Trouble(format!("{command} gave no sheet")));
+    };
+    write(command, arguments, schema(&question, over)?, &sheet)
+}
+
+/// Writes an instance: aligned tables to standard output, a folder of CSV
+/// files, or a sheet.
+pub fn write(
+    command: &'static str,
+    arguments: &Arguments,
+    schema: &Schema,
+    sheet: &[u8],
+) -> Result<(), Failure> {
+    let instance = || decoded("the instance", Instance::from_sheet(schema, sheet));
+    match Target::of(arguments.output.as_deref()) {
+        Target::Print => output::print(&aligned_tables(&instance()?, schema)),
+        Target::PrintSheet => output::print_bytes(sheet),
+        Target::Sheet(path) => output::write_file(&path, sheet, arguments.force),
+        Target::Text(path) if path.extension().is_some_and(|ending| ending == "csv") => {
+            let what = "an instance has several tables; name a folder, or a file ending in .sheet";
+            Err(Failure::usage(command, what))
+        }
+        Target::Text(path) => {
+            output::write_folder(&path, &instance()?.to_folder(schema), arguments.force)
+        }
+    }
+}

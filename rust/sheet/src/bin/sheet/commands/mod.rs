@@ -1,0 +1,73 @@
+//! The commands.
+
+mod check;
+mod draw;
+mod matching;
+mod migrate;
+mod pack;
+mod same_path;
+mod show;
+mod version;
+
+use crate::arguments::Arguments;
+use crate::failure::Failure;
+
+/// A command: its name, the options it takes, and what it does with the words
+/// that follow it.
+pub struct Command {
+    /// The name.
+    pub name: &'static str,
+    /// The options it takes.
+    pub options: &'static [&'static str],
+    /// What it does.
+    pub run: fn(&Arguments, &[String]) -> Result<(), Failure>,
+}
+
+const FILES: &[&str] = &["--output", "--force"];
+const MIGRATES: &[&str] = &["--output", "--force", "--tray"];
+
+const COMMANDS: [Command; 11] = [
+    Command {
+        name: "pack",
+        options: &["--output", "--force", "--hex", "--unchecked"],
+        run: pack::run,
+    },
+    Command { name: "show", options: FILES, run: show::run },
+    Command { name: "check", options: &[], run: check::run },
+    Command { name: "delta", options: MIGRATES, run: migrate::delta },
+    Command { name: "sigma", options: MIGRATES, run: migrate::sigma },
+    Command { name: "pi", options: MIGRATES, run: migrate::pi },
+    Command { name: "match", options: &[], run: matching::check },
+    Command { name: "turn", options: MIGRATES, run: matching::turn },
+    Command { name: "same-path", options: &[], run: same_path::run },
+    Command { name: "draw", options: FILES, run: draw::run },
+    Command { name: "version", options: &[], run: version::run },
+];
+
+/// The command with this name.
+pub fn find(name: &str) -> Option<&'static Command> {
+    COMMANDS.iter().find(|command| command.name == name)
+}
+
+/// The commands' names, for messages.
+pub fn names() -> String {
+    let names: Vec<&str> = COMMANDS.iter().map(|command| command.name).collect();
+    format!("{} or help", names.join(", "))
+}
+
+/// The first word after a command says what it is about.
+fn sort<'a>(
+    command: &'static str,
+    sorts: &[&str],
+    words: &'a [String],
+) -> Result<(&'a str, &'a [String]), Failure> {
+    let expected = || {
+        let what = format!("expected `sheet {command} {}` and what to read", sorts.join("|"));
+        Failure::usage(command, what)
+    };
+    let (sort, rest) = words.split_first().ok_or_else(expected)?;
+    match sorts.contains(&sort.as_str()) {
+        true => Ok((sort, rest)),
+        false => Err(expected()),
+    }
+}

@@ -1,0 +1,208 @@
+//! The help texts.
+
+use crate::commands;
+use crate::failure::Failure;
+use crate::output;
+
+/// Prints the overview, or a command's help.
+pub fn print(command: Option<&str>) -> Result<(), Failure> {
+    match command {
+        None | Some("help") => output::print(OVERVIEW),
+        Some(name) => match text(name) {
+            Some(text) => output::print(text),
+            None => {
+                let names = commands::names();
+                Err(Failure::usage("", format!("no command is named `{name}`; expected {names}")))
+            }
+        },
+    }
+}
+
+fn text(command: &str) -> Option<&'static str> {
+    Some(match command {
+        "pack" => PACK,
+        "show" => SHOW,
+        "check" => CHECK,
+        "delta" => DELTA,
+        "sigma" => SIGMA,
+        "pi" => PI,
+        "match" => MATCH,
+        "turn" => TURN,
+        "same-path" => SAME_PATH,
+        "draw" => DRAW,
+        "version" => VERSION,
+        _ => return None,
+    })
+}
+
+/// What `sheet help` prints.
+pub const OVERVIEW: &str = "\
+sheet: inspection run records from text and CSV to the proved calls and back
+
+  sheet pack schema|mapping|instance|matching|path ..  text to a sheet
+  sheet show schema|mapping|instance|matching|path ..  a sheet to text or tables
+  sheet check schema|mapping|instance ..               ask the proved check
+  sheet delta S T MAPPING BOOK                         pull a book back to S
+  sheet sigma S T MAPPING RUN                          push a run, tables joined
+  sheet pi S T MAPPING RUN                             push a run, rows fitted
+  sheet match pushed|raw S T MAPPING RUN BOOK LIST     check a list of partners
+  sheet turn pushed-to-raw|raw-to-pushed S T MAPPING RUN BOOK LIST
+                                                       turn it to the other side
+  sheet same-path SCHEMA PATH PATH                     are two paths equal?
+  sheet draw schema|mapping ..                         Graphviz text
+  sheet help COMMAND                                   more on a command
+
+What is read: a schema or mapping is a text file, an instance (RUN, BOOK) a
+folder with one CSV file for each table, a LIST a CSV file, a PATH a text like
+Dent.joint. Each may be a sheet instead: a file ending in .sheet, sheet:FILE, or
+- for a sheet on standard input. text:FILE is text whatever its name.
+
+What is written: -o PATH writes a sheet where PATH ends in .sheet or begins with
+sheet:, else text; without it the result goes to standard output. Existing files
+are kept unless --force is given.
+
+Exit status: 0 done; 1 refused by the proved call, with number, word and cause
+on standard error; 2 bad usage, bad text, or a file that cannot be read or
+written. Nothing is written on 1 and 2.
+";
+
+const PACK: &str = "\
+sheet pack schema SCHEMA
+sheet pack mapping S T MAPPING
+sheet pack instance SCHEMA INSTANCE
+sheet pack matching SCHEMA LIST
+sheet pack path SCHEMA PATH
+
+Writes text as a sheet. The proved check is asked first, and nothing is written
+if it refuses. Of a matching only the schema is checked: which list is a
+matching is a question for `sheet match`.
+
+  -o FILE       write the sheet to FILE instead of standard output
+  --force       replace FILE if it exists
+  --hex         write hexadecimal bytes as text
+  --unchecked   do not ask the proved check
+
+Example: sheet pack --hex schema vendor.schema
+";
+
+const SHOW: &str = "\
+sheet show schema SCHEMA
+sheet show mapping S T MAPPING
+sheet show instance SCHEMA INSTANCE
+sheet show matching SCHEMA INSTANCE LIST
+sheet show path SCHEMA PATH
+
+Writes a sheet as text: a schema, mapping, matching or path in its text form, an
+instance as aligned tables, or with -o as a folder of CSV files. The sheet is
+one that the proved check accepts. A schema sheet has no names; node0, link0,
+column0 and so on are used. The INSTANCE of a matching is the one whose rows it
+gives partners to: Sigma's result on the pushed side, the run on the raw side.
+
+  -o PATH       write to a file, or to a folder for an instance
+  --force       replace PATH if it exists
+
+Example: sheet show instance vendor.schema run.sheet -o run
+";
+
+const CHECK: &str = "\
+sheet check schema SCHEMA
+sheet check mapping S T MAPPING
+sheet check instance SCHEMA INSTANCE
+
+Asks the proved check. For an accepted mapping it also tells whether sigma (with
+match and turn) and pi take it, and if not, why.
+
+Example: sheet check mapping vendor.schema operator.schema vendor-to-operator.mapping
+";
+
+const DELTA: &str = "\
+sheet delta S T MAPPING BOOK
+
+Pulls an instance of T back to S: the table at a node of S is a copy of the
+table at its image, a link follows its image path, a column copies its image.
+
+  -o PATH       write a folder of CSV files, or a sheet if PATH ends in .sheet
+  --force       replace PATH if it exists
+  --tray BYTES  lend the call a tray of BYTES (refusal 16 if it is too small)
+
+Example: sheet delta vendor.schema operator.schema vendor-to-operator.mapping book
+";
+
+const SIGMA: &str = "\
+sheet sigma S T MAPPING RUN
+
+Pushes an instance of S to T along an even mapping: the table at a node of T is
+the joined list of the tables that go there, in the order of S.
+
+  -o PATH       write a folder of CSV files, or a sheet if PATH ends in .sheet
+  --force       replace PATH if it exists
+  --tray BYTES  lend the call a tray of BYTES (refusal 16 if it is too small)
+
+Example: sheet sigma vendor.schema operator.schema vendor-to-operator.mapping run -o pushed
+";
+
+const PI: &str = "\
+sheet pi S T MAPPING RUN
+
+Pushes an instance of S to T by fitting choices: a row at a node of T is one row
+for each way from there to a table of S, such that the links agree.
+
+  -o PATH       write a folder of CSV files, or a sheet if PATH ends in .sheet
+  --force       replace PATH if it exists
+  --tray BYTES  lend the call a tray of BYTES (refusal 16 if it is too small)
+
+Example: sheet pi parts.schema pairs.schema parts-to-pairs.mapping run
+";
+
+const MATCH: &str = "\
+sheet match pushed S T MAPPING RUN BOOK LIST
+sheet match raw S T MAPPING RUN BOOK LIST
+
+Checks a list of partners along an even mapping. On the pushed side it leads
+from Sigma of the run to the book, its tables being those of T; on the raw side
+from the run to Delta of the book, its tables being those of S.
+
+Example: sheet match raw vendor.schema operator.schema vendor-to-operator.mapping run book raw.csv
+";
+
+const TURN: &str = "\
+sheet turn pushed-to-raw S T MAPPING RUN BOOK LIST
+sheet turn raw-to-pushed S T MAPPING RUN BOOK LIST
+
+Turns a matching of one side into the one of the other side in which each row of
+the run meets the same row of the book. Turning back gives the first list again.
+
+  -o FILE       write FILE, ending in .csv or .sheet, instead of standard output
+  --force       replace FILE if it exists
+  --tray BYTES  lend the call a tray of BYTES (refusal 16 if it is too small)
+
+Example: sheet turn pushed-to-raw vendor.schema operator.schema \\
+             vendor-to-operator.mapping run book pushed.csv -o raw.csv
+";
+
+const SAME_PATH: &str = "\
+sheet same-path SCHEMA PATH PATH
+
+Prints `equal` or `unequal`: whether the schema's equations make two paths
+equal. A path is NODE.LINK.LINK, or the node alone; sheet:FILE is a path sheet.
+
+Example: sheet same-path operator.schema Anomaly.joint.upstream Anomaly.reference
+";
+
+const DRAW: &str = "\
+sheet draw schema SCHEMA
+sheet draw mapping S T MAPPING
+
+Writes Graphviz text. `dot -Tpng` makes a picture of it.
+
+  -o FILE       write to FILE instead of standard output
+  --force       replace FILE if it exists
+
+Example: sheet draw schema vendor.schema | dot -Tpng -o vendor.png
+";
+
+const VERSION: &str = "\
+sheet version
+
+Prints the version.
+";

@@ -1,0 +1,176 @@
+//! What causes a refusal, and what would mend it.
+//!
+//! Number and place are the proved call's; the cause is looked for afterwards
+//! in the same sheets, and named by table, row and line.
+
+mod even;
+mod instance;
+mod list;
+mod mapping;
+mod overfull;
+mod path;
+mod pi;
+mod schema;
+
+use crate::bits::{counted, Fault};
+use crate::lent::Lent;
+use crate::question::{Answer, Call, Question, Role};
+use migration::Refusal;
+use std::fmt;
+
+/// A place in what was lent that makes the call refuse.
+#[derive(Debug, Clone, PartialEq, Eq)]
+pub struct Cause {
+    /// The file and line or row.
+    pub place: String,
+    /// What is there.
+    pub what: String,
+    /// What would mend it.
+    pub mend: Option<String>,
+}
+
+impl Cause {
+    pub(crate) fn new(place: impl Into<String>, what: impl Into<String>) -> Self {
+        Cause { place: place.into(), what: what.into(), mend: None }
+    }
+
+    pub(crate) fn mend(mut self, mend: impl Into<String>) -> Self {
+        self.mend = Some(mend.into());
+        self
+    }
+}
+
+/// A refusal with its causes.
+#[derive(Debug, Clone, PartialEq, Eq)]
+pub struct Explanation {
+    /// The proved call's refusal.
+    pub refusal: Refusal,
+    /// The call.
+    pub call: Call,
+    /// What the refused sheet is to the call, and its file; none at place 0.
+    pub sheet: Option<(&'static str, String)>,
+    /// The causes that were found, the first one first.
+    pub causes: Vec<Cause>,
+}
+
+/// The most causes that are shown.
+const MOST_SHOWN: usize = 5;
+
+/// The causes first, each with number and word; then which call refused which
+/// sheet and why; then what would mend the first cause.
+impl fmt::Display for Explanation {
+    fn fmt(&self, out: &mut fmt::Formatter<'_>) -> fmt::Result {
+        let refusal = self.refusal;
+        let tag = format!("({}, {})", refusal.number, refusal.word());
+        for cause in self.causes.iter().take(MOST_SHOWN) {
+            writeln!(out, "{}: {} {tag}", cause.place, cause.what)?;
+        }
+        if self.causes.is_empty() {
+            let place = self.sheet.as_ref().map_or(self.call.name(), |(_, file)| file);
+            writeln!(out, "{place}: {} {tag}", refusal.sentence())?;
+        }
+        if self.causes.len() > MOST_SHOWN {
+            writeln!(out, "and {} more like these", self.causes.len() - MOST_SHOWN)?;
+        }
+        let call = self.call.name();
+        match &self.sheet {
+            Some((role, file)) => {
+                write!(out, "{call} refused sheet {}, {role} ({file})", refusal.place)?
+            }
+            None => write!(out, "{call} refused, place {}", refusal.place)?,
+        }
+        writeln!(out, ": {}", refusal.sentence())?;
+        match self.causes.first().and_then(|cause| cause.mend.as_ref()) {
+            Some(mend) => writeln!(out, "mend: {mend}"),
+            None => Ok(()),
+        }
+    }
+}
+
+impl Question {
+    /// What causes a refusal of this question.
+    pub fn explain(&self, refusal: Refusal) -> Explanation {
+        let role = usize::from(refusal.place).checked_sub(1);
+        let role = role.and_then(|place| self.call.roles().get(place)).copied();
+        let file = role.and_then(|role| self.lent(role)).map(|lent| lent.file.clone());
+        let name = role.map(|role| role_name(self.call, role));
+        let sheet = name.zip(file);
+        let causes = match role {
+            Some(role) => self.causes_at(role, refusal.number),
+            None => self.causes_of_all(refusal.number),
+        };
+        Explanation { refusal, call: self.call, sheet, causes: causes.unwrap_or_default() }
+    }
+
+    fn causes_at(&self, role: Role, number: u8) -> Option<Vec<Cause>> {
+        Some(match role {
+            Role::S => schema::causes(self.s.as_ref()?, number),
+            Role::T => schema::causes(self.t.as_ref()?, number),
+            Role::Mapping => mapping::causes(self, number)?,
+            Role::Run => instance::causes(self.run.as_ref()?, self.s.as_ref()?, number)?,
+            Role::Book => instance::causes(self.book.as_ref()?, self.t.as_ref()?, number)?,
+            Role::FirstPath => path::causes(self.first_path.as_ref()?, self.s_schema()?),
+            Role::SecondPath => path::causes(self.second_path.as_ref()?, self.s_schema()?),
+            Role::List => list::causes(self, number)?,
+        })
+    }
+
+    fn causes_of_all(&self, number: u8) -> Option<Vec<Cause>> {
+        match number {
+            12 => even::causes(self),
+            13 => pi::unpaired(self),
+            14 => pi::wide(self),
+            15 => overfull::causes(self),
+            16 => self.small_tray(),
+            _ => None,
+        }
+    }
+
+    /// The bytes that the result needs.
+    fn small_tray(&self) -> Option<Vec<Cause>> {
+        let whole = Question { tray: None, ..self.clone() };
+        let Ok(Answer::Sheet(sheet)) = whole.ask() else { return None };
+        let (needed, lent) = (sheet.len(), self.tray?);
+        let what = format!("the result needs {needed} bytes, but {lent} were lent");
+        let most = match self.call {
+            Call::PushedToRaw | Call::RawToPushed => migration::MOST_MATCHING_BYTES,
+            _ => migration::MOST_INSTANCE_BYTES,
+        };
+        let mend = format!("lend {needed} bytes; {most} hold every result");
+        Some(vec![Cause::new("the tray", what).mend(mend)])
+    }
+}
+
+/// What a sheet is to a call, in words.
+fn role_name(call: Call, role: Role) -> &'static str {
+    match (call, role) {
+        (Call::CheckSchema | Call::CheckInstance | Call::SamePath, Role::S) => "the schema",
+        (Call::CheckInstance, Role::Run) => "the instance",
+        (_, Role::S) => "schema S",
+        (_, Role::T) => "schema T",
+        (_, Role::Mapping) => "the mapping",
+        (_, Role::Run) => "the run",
+        (_, Role::Book) => "the book",
+        (_, Role::FirstPath) => "the first path",
+        (_, Role::SecondPath) => "the second path",
+        (_, Role::List) => "the list",
+    }
+}
+
+/// The cause where a sheet cannot be decoded; `over` is what it has to fit, if
+/// anything.
+fn fault_cause(lent: &Lent, fault: &Fault, over: Option<&str>) -> Cause {
+    let cause = Cause::new(&lent.file, fault.to_string());
+    let mend = match fault {
+        Fault::Count { .. } => return cause,
+        Fault::Cut { .. } => "lend the whole sheet".to_string(),
+        Fault::FillingBit { .. } => "pack it again".to_string(),
+        Fault::Follows { needed, .. } => {
+            format!("lend its first {} alone", counted(*needed, "byte"))
+        }
+    };
+    cause.mend(match over {
+        Some(over) => format!("{mend}; or lend the {over} that it was packed for"),
+        None => mend,
+    })
+}

@@ -1,0 +1,268 @@
+//! A question to a proved call: which call, and the sheets it is lent.
+
+use crate::instance::Instance;
+use crate::lent::{Lent, LentSchema};
+use crate::mapping::Mapping;
+use crate::schema::Schema;
+use migration::{Refusal, MOST_INSTANCE_BYTES, MOST_MATCHING_BYTES};
+
+/// The proved calls.
+#[derive(Debug, Clone, Copy, PartialEq, Eq, Hash)]
+pub enum Call {
+    /// Checks a schema.
+    CheckSchema,
+    /// Checks a mapping.
+    CheckMapping,
+    /// Checks an instance.
+    CheckInstance,
+    /// Whether two paths are equal.
+    SamePath,
+    /// Pulls an instance of T back to S.
+    Delta,
+    /// Pushes an instance of S to T by joining tables.
+    Sigma,
+    /// Pushes an instance of S to T by fitting choices.
+    Pi,
+    /// Checks a matching of the pushed side.
+    CheckPushed,
+    /// Checks a matching of the raw side.
+    CheckRaw,
+    /// Turns a matching of the pushed side into one of the raw side.
+    PushedToRaw,
+    /// Turns a matching of the raw side into one of the pushed side.
+    RawToPushed,
+}
+
+/// What a lent sheet is for a call.
+#[derive(Debug, Clone, Copy, PartialEq, Eq, Hash)]
+pub enum Role {
+    /// The schema S, or the only schema.
+    S,
+    /// The schema T.
+    T,
+    /// The mapping of S to T.
+    Mapping,
+    /// An instance of S.
+    Run,
+    /// An instance of T.
+    Book,
+    /// The first path of S.
+    FirstPath,
+    /// The second path of S.
+    SecondPath,
+    /// The list of partners.
+    List,
+}
+
+impl Call {
+    /// The call's name.
+    pub fn name(self) -> &'static str {
+        match self {
+            Call::CheckSchema => "check_schema",
+            Call::CheckMapping => "check_mapping",
+            Call::CheckInstance => "check_instance",
+            Call::SamePath => "same_path",
+            Call::Delta => "delta",
+            Call::Sigma => "sigma",
+            Call::Pi => "pi",
+            Call::CheckPushed => "check_pushed",
+            Call::CheckRaw => "check_raw",
+            Call::PushedToRaw => "pushed_to_raw",
+            Call::RawToPushed => "raw_to_pushed",
+        }
+    }
+
+    /// What the sheets are, in the order of their places.
+    pub fn roles(self) -> &'static [Role] {
+        use Role::{Book, FirstPath, List, Mapping, Run, SecondPath, S, T};
+        match self {
+            Call::CheckSchema => &[S],
+            Call::CheckMapping => &[S, T, Mapping],
+            Call::CheckInstance => &[S, Run],
+            Call::SamePath => &[S, FirstPath, SecondPath],
+            Call::Delta => &[S, T, Mapping, Book],
+            Call::Sigma | Call::Pi => &[S, T, Mapping, Run],
+            Call::CheckPushed | Call::CheckRaw | Call::PushedToRaw | Call::RawToPushed => {
+                &[S, T, Mapping, Run, Book, List]
+            }
+        }
+    }
+
+    /// Whether its list is one of the pushed side.
+    pub(crate) fn is_pushed(self) -> bool {
+        matches!(self, Call::CheckPushed | Call::PushedToRaw)
+    }
+}
+
+/// What a call answers when it accepts.
+#[derive(Debug, Clone, PartialEq, Eq)]
+pub enum Answer {
+    /// A check accepts.
+    Accepted,
+    /// The paths are equal, or unequal.
+    Equal(bool),
+    /// The result's sheet.
+    Sheet(Vec<u8>),
+}
+
+/// A call with the sheets it is lent.  A missing sheet is lent empty: it does
+/// not matter where an earlier one is sent back.
+///
+/// ```
+/// use sheet::{Answer, Call, LentSchema, Question};
+/// let mut question = Question::new(Call::CheckSchema);
+/// question.s = Some(LentSchema::from_text("one.schema", "node Dent\n").unwrap());
+/// assert_eq!(question.ask(), Ok(Answer::Accepted));
+/// ```
+#[derive(Debug, Clone, PartialEq, Eq)]
+pub struct Question {
+    /// The call.
+    pub call: Call,
+    /// The schema S, or the only schema.
+    pub s: Option<LentSchema>,
+    /// The schema T.
+    pub t: Option<LentSchema>,
+    /// The mapping.
+    pub mapping: Option<Lent>,
+    /// The instance of S.
+    pub run: Option<Lent>,
+    /// The instance of T.
+    pub book: Option<Lent>,
+    /// The first path.
+    pub first_path: Option<Lent>,
+    /// The second path.
+    pub second_path: Option<Lent>,
+    /// The list of partners.
+    pub list: Option<Lent>,
+    /// The bytes of the lent tray; by default one that holds every result.
+    pub tray: Option<usize>,
+}
+
+impl Question {
+    /// A question with nothing lent yet.
+    pub fn new(call: Call) -> Self {
+        Question {
+            call,
+            s: None,
+            t: None,
+            mapping: None,
+            run: None,
+            book: None,
+            first_path: None,
+            second_path: None,
+            list: None,
+            tray: None,
+        }
+    }
+
+    /// The sheet with a role.
+    pub fn lent(&self, role: Role) -> Option<&Lent> {
+        match role {
+            Role::S => self.s.as_ref().map(|schema| &schema.lent),
+            Role::T => self.t.as_ref().map(|schema| &schema.lent),
+            Role::Mapping => self.mapping.as_ref(),
+            Role::Run => self.run.as_ref(),
+            Role::Book => self.book.as_ref(),
+            Role::FirstPath => self.first_path.as_ref(),
+            Role::SecondPath => self.second_path.as_ref(),
+            Role::List => self.list.as_ref(),
+        }
+    }
+
+    fn sheet(&self, role: Role) -> &[u8] {
+        self.lent(role).map_or(&[], |lent| &lent.sheet)
+    }
+
+    /// Asks the proved call.
+    ///
+    /// # Errors
+    /// The call's refusal.
+    pub fn ask(&self) -> Result<Answer, Refusal> {
+        let (s, t, f) = (self.sheet(Role::S), self.sheet(Role::T), self.sheet(Role::Mapping));
+        let (run, book, list) =
+            (self.sheet(Role::Run), self.sheet(Role::Book), self.sheet(Role::List));
+        let accepted = |()| Answer::Accepted;
+        match self.call {
+            Call::CheckSchema => migration::check_schema(s).map(accepted),
+            Call::CheckMapping => migration::check_mapping(s, t, f).map(accepted),
+            Call::CheckInstance => migration::check_instance(s, run).map(accepted),
+            Call::SamePath => {
+                let (p, q) = (self.sheet(Role::FirstPath), self.sheet(Role::SecondPath));
+                migration::same_path(s, p, q).map(Answer::Equal)
+            }
+            Call::Delta => {
+                self.filled(MOST_INSTANCE_BYTES, |tray| migration::delta_into(s, t, f, book, tray))
+            }
+            Call::Sigma => {
+                self.filled(MOST_INSTANCE_BYTES, |tray| migration::sigma_into(s, t, f, run, tray))
+            }
+            Call::Pi => {
+                self.filled(MOST_INSTANCE_BYTES, |tray| migration::pi_into(s, t, f, run, tray))
+            }
+            Call::CheckPushed => migration::check_pushed(s, t, f, run, book, list).map(accepted),
+            Call::CheckRaw => migration::check_raw(s, t, f, run, book, list).map(accepted),
+            Call::PushedToRaw => self.filled(MOST_MATCHING_BYTES, |tray| {
+                migration::pushed_to_raw_into(s, t, f, run, book, list, tray)
+            }),
+            Call::RawToPushed => self.filled(MOST_MATCHING_BYTES, |tray| {
+                migration::raw_to_pushed_into(s, t, f, run, book, list, tray)
+            }),
+        }
+    }
+
+    fn filled(
+        &self,
+        most: usize,
+        call: impl FnOnce(&mut [u8]) -> Result<usize, Refusal>,
+    ) -> Result<Answer, Refusal> {
+        let mut tray = vec![0; self.tray.unwrap_or(most)];
+        let length = call(&mut tray)?;
+        tray.truncate(length);
+        Ok(Answer::Sheet(tray))
+    }
+
+    /// S with its names, where it can be decoded.
+    pub(crate) fn s_schema(&self) -> Option<&Schema> {
+        self.s.as_ref()?.schema.as_ref().ok()
+    }
+
+    /// T with its names, where it can be decoded.
+    pub(crate) fn t_schema(&self) -> Option<&Schema> {
+        self.t.as_ref()?.schema.as_ref().ok()
+    }
+
+    /// The mapping, where it can be decoded.
+    pub(crate) fn mapping_decoded(&self) -> Option<Mapping> {
+        Mapping::from_sheet(self.s_schema()?, self.sheet(Role::Mapping)).ok()
+    }
+
+    /// The instance of S, where it can be decoded.
+    pub(crate) fn run_decoded(&self) -> Option<Instance> {
+        Instance::from_sheet(self.s_schema()?, self.sheet(Role::Run)).ok()
+    }
+
+    /// The instance of T, where it can be decoded.
+    pub(crate) fn book_decoded(&self) -> Option<Instance> {
+        Instance::from_sheet(self.t_schema()?, self.sheet(Role::Book)).ok()
+    }
+
+    /// The schema over whose tables the list stands.
+    pub(crate) fn list_schema(&self) -> Option<&Schema> {
+        match self.call.is_pushed() {
+            true => self.t_schema(),
+            false => self.s_schema(),
+        }
+    }
+
+    /// The row counts of the instance that the list starts from, by the run's
+    /// counts: those of Sigma's result or of the run itself.
+    pub(crate) fn list_counts(&self) -> Option<Vec<usize>> {
+        let run = self.run_decoded()?;
+        if !self.call.is_pushed() {
+            return Some(run.rows);
+        }
+        let mapping = self.mapping_decoded()?;
+        let joined = |node| mapping.fibre(node).into_iter().map(|c| run.count(c)).sum();
+        Some((0..self.t_schema()?.nodes.len()).map(joined).collect())
+    }
+}

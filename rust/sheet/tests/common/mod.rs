@@ -1,0 +1,182 @@
+//! What several test programs share: the examples, folders to write in, and
+//! running the command.
+
+#![allow(dead_code)]
+
+pub mod generate;
+
+use std::fs;
+use std::path::{Path, PathBuf};
+use std::process::{Command, Output, Stdio};
+
+/// The bytes that a text of hexadecimal numbers names.
+pub fn hex(text: &str) -> Vec<u8> {
+    let numbers = text.split_whitespace();
+    numbers.map(|number| u8::from_str_radix(number, 16).expect("a hexadecimal byte")).collect()
+}
+
+/// The folder of an example, `examples/NAME` or `examples-NAME` in a folder
+/// above this crate.
+pub fn example(name: &str) -> PathBuf {
+    above(&[&format!("examples/{name}"), &format!("examples-{name}")])
+}
+
+/// The folder of the documentation, `docs/sheet` or `docs-sheet` in a folder
+/// above this crate.
+pub fn documentation() -> PathBuf {
+    above(&["docs/sheet", "docs-sheet"])
+}
+
+fn above(names: &[&str]) -> PathBuf {
+    let folders = Path::new(env!("CARGO_MANIFEST_DIR")).ancestors();
+    let mut found = folders.flat_map(|folder| names.iter().map(|name| folder.join(name)));
+    found.find(|folder| folder.is_dir()).expect("a folder above this crate")
+}
+
+/// A folder of a test's own, new at each run.
+pub struct Folder(PathBuf);
+
+impl Folder {
+    pub fn new(name: &str) -> Self {
+        let path = Path::new(env!("CARGO_TARGET_TMPDIR")).join(name);
+        let _ = fs::remove_dir_all(&path);
+        fs::create_dir_all(&path).expect("a new folder");
+        Folder(path)
+    }
+
+    /// A folder with a copy of an example.
+    pub fn with_example(name: &str, example_name: &str) -> Self {
+        let folder = Folder::new(name);
+        copy(&example(example_name), &folder.0);
+        folder
+    }
+
+    pub fn path(&self) -> &Path {
+        &self.0
+    }
+
+    pub fn join(&self, name: &str) -> PathBuf {
+        self.0.join(name)
+    }
+
+    /// Writes a file, and the folder it stands in.
+    pub fn write(&self, name: &str, content: impl AsRef<[u8]>) {
+        let path = self.join(name);
+        fs::create_dir_all(path.parent().expect("a folder")).expect("the folder");
+        fs::write(path, content).expect("a written file");
+    }
+
+    pub fn read(&self, name: &str) -> Vec<u8> {
+        fs::read(self.join(name)).expect("a file")
+    }
+
+    /// The names of everything in this folder, sorted.
+    pub fn names(&self) -> Vec<String> {
+        names_in(&self.0)
+    }
+
+    /// Runs the command in this folder.
+    pub fn sheet(&self, line: &str) -> Ran {
+        let words: Vec<&str> = line.split_whitespace().collect();
+        self.run(&words, b"")
+    }
+
+    /// Runs the command in this folder with words that may have blanks, and
+    /// standard input.
+    pub fn run(&self, words: &[&str], input: &[u8]) -> Ran {
+        let mut command = command(&self.0);
+        let mut child = command.args(words).spawn().expect("a started command");
+        let mut stdin = child.stdin.take().expect("standard input");
+        // A command that does not read its input may have ended already.
+        let _ = std::io::Write::write_all(&mut stdin, input);
+        drop(stdin);
+        Ran(child.wait_with_output().expect("an ended command"))
+    }
+}
+
+/// The command in a folder, everything piped.
+pub fn command(folder: &Path) -> Command {
+    let mut command = Command::new(env!("CARGO_BIN_EXE_sheet"));
+    command.current_dir(folder);
+    command.stdin(Stdio::piped()).stdout(Stdio::piped()).stderr(Stdio::piped());
+    command
+}
+
+pub fn names_in(folder: &Path) -> Vec<String> {
+    let entries = fs::read_dir(folder).expect("a folder");
+    let mut names: Vec<String> = entries
+        .map(|entry| entry.expect("an entry").file_name().to_string_lossy().into_owned())
+        .collect();
+    names.sort();
+    names
+}
+
+fn copy(from: &Path, to: &Path) {
+    for name in names_in(from) {
+        let (from, to) = (from.join(&name), to.join(&name));
+        if from.is_dir() {
+            fs::create_dir_all(&to).expect("a new folder");
+            copy(&from, &to);
+        } else {
+            fs::copy(&from, &to).expect("a copied file");
+        }
+    }
+}
+
+/// What a command left behind.
+pub struct Ran(pub Output);
+
+impl Ran {
+    pub fn status(&self) -> i32 {
+        self.0.status.code().expect("an exit status")
+    }
+
+    pub fn out(&self) -> String {
+        String::from_utf8_lossy(&self.0.stdout).into_owned()
+    }
+
+    pub fn err(&self) -> String {
+        String::from_utf8_lossy(&self.0.stderr).into_owned()
+    }
+
+    /// Done: nothing on standard error, and this on standard output.
+    pub fn printed(&self, expected: &str) {
+        assert_eq!(self.err(), "");
+        assert_eq!(self.out(), expected);
+        assert_eq!(self.status(), 0);
+    }
+
+    /// Done with nothing printed.
+    pub fn silent(&self) {
+        self.printed("");
+    }
+
+    /// Refused: nothing on standard output, and this on standard error.
+    pub fn refused(&self, expected: &str) {
+        assert_eq!(self.err(), expected);
+        assert_eq!(self.out(), "");
+        assert_eq!(self.status(), 1);
+    }
+
+    /// Bad usage or bad text: nothing on standard output, and this on standard
+    /// error.
+    pub fn bad(&self, expected: &str) {
+        assert_eq!(self.err(), expected);
+        assert_eq!(self.out(), "");
+        assert_eq!(self.status(), 2);
+    }
+}
+
+/// S, T and mapping of both examples.
+pub const MAPPED: &str = "vendor.schema operator.schema vendor-to-operator.mapping";
+
+/// Facts, one a line.
+pub fn lines(facts: &[&str]) -> String {
+    facts.iter().map(|fact| format!("{fact}\n")).collect()
+}
+
+/// A table with only row numbers.
+pub fn bare_rows(count: usize) -> String {
+    let rows = (0..count).map(|row| format!("{row}\n"));
+    format!("row\n{}", rows.collect::<String>())
+}

@@ -1,0 +1,99 @@
+//! What the documentation shows is what the command does: each `$ sheet` line of
+//! a console block is run in a copy of an example, and what it prints compared;
+//! each schema and mapping shown is read.
+
+mod common;
+
+use common::{documentation, example, names_in, Folder};
+use sheet::{Mapping, Schema};
+use std::fs;
+use std::path::Path;
+
+/// The blocks of a page: what stands after the opening marks, and the lines.
+fn blocks(page: &str) -> Vec<(String, Vec<String>)> {
+    let mut blocks = Vec::new();
+    let mut open: Option<(String, Vec<String>)> = None;
+    for line in page.lines() {
+        match (line.strip_prefix("```"), open.take()) {
+            (Some(_), Some(block)) => blocks.push(block),
+            (Some(sort), None) => open = Some((sort.to_string(), Vec::new())),
+            (None, Some((sort, mut lines))) => {
+                lines.push(line.to_string());
+                open = Some((sort, lines));
+            }
+            (None, None) => {}
+        }
+    }
+    assert!(open.is_none(), "a block without its end");
+    blocks
+}
+
+/// Runs the console blocks of a page, in the order of the page.
+fn run_page(page: &Path, example_name: &str) -> usize {
+    let stem = page.file_stem().unwrap().to_string_lossy();
+    let folder = Folder::with_example(&format!("page-{example_name}-{stem}"), example_name);
+    let text = fs::read_to_string(page).unwrap();
+    let mut ran = 0;
+    for (_, lines) in blocks(&text).iter().filter(|(sort, _)| sort == "console") {
+        let mut lines = lines.iter().peekable();
+        while let Some(line) = lines.next() {
+            let words = line.strip_prefix("$ sheet ").expect("a line of the command");
+            let mut expected = String::new();
+            while let Some(printed) = lines.next_if(|line| !line.starts_with("$ ")) {
+                expected.push_str(printed);
+                expected.push('\n');
+            }
+            let left = folder.sheet(words);
+            assert_eq!(left.out() + &left.err(), expected, "{}: {line}", page.display());
+            ran += 1;
+        }
+    }
+    ran
+}
+
+#[test]
+fn the_pages_show_what_the_command_does() {
+    let folder = documentation();
+    let mut pages = 0;
+    for name in names_in(&folder).iter().filter(|name| name.ends_with(".md")) {
+        assert!(run_page(&folder.join(name), "base") > 0, "{name} shows no command");
+        pages += 1;
+    }
+    assert_eq!(pages, 5);
+}
+
+#[test]
+fn the_examples_readmes_show_what_the_command_does() {
+    assert!(run_page(&example("base").join("README.md"), "base") >= 8);
+    assert!(run_page(&example("book").join("README.md"), "book") >= 8);
+}
+
+#[test]
+fn the_schemas_and_mappings_shown_are_read() {
+    let read = |name: &str| fs::read_to_string(documentation().join(name)).unwrap();
+    let schema = |name: &str| {
+        let text = fs::read_to_string(example("base").join(name)).unwrap();
+        Schema::parse(name, &text).unwrap().0
+    };
+    let mut shown = 0;
+    for (sort, lines) in blocks(&read("schema.md")) {
+        if sort == "schema" {
+            let (found, _) = Schema::parse("schema.md", &lines.join("\n")).unwrap();
+            assert_eq!(migration::check_schema(&found.to_sheet().unwrap()), Ok(()));
+            shown += 1;
+        }
+    }
+    let (s, t) = (schema("vendor.schema"), schema("operator.schema"));
+    for (sort, lines) in blocks(&read("mapping.md")) {
+        if sort == "mapping" {
+            Mapping::parse("mapping.md", &lines.join("\n"), &s, &t).unwrap();
+            shown += 1;
+        }
+    }
+    assert_eq!(shown, 2);
+    let page = read("schema.md");
+    for kind in sheet::kinds::KINDS {
+        let row = format!("| `{}` | {} | {} |", kind.name, kind.unit, kind.largest);
+        assert!(page.contains(&row.replace("|  |", "| |")), "{row}");
+    }
+}
