@@ -1,11 +1,11 @@
 -- What judged sheets say together: the meanings of the checks, of the path question and of a mapping with its schemas.
 use Prim.Native.Nat.{ℕ}
-use mathlib.Core.Path.{_≡_, ap, _∙_}
+use mathlib.Core.Path.{_≡_}
 use mathlib.Core.List.{List}
 use Rattle.meaning.specs.Schema as meaning
 use Rattle.meaning.specs.PathEquality.{equal}
 use Rattle.meaning.specs.Judge.{judgeSchema, judgePath, judgeMapping, judgeInstance}
-use Rattle.meaning.specs.Calls.{Outcome, accepted, _>>=_, at, Migration, checkSchema, migration, checkInstance, samePath}
+use Rattle.meaning.specs.Calls.{accepted, _>>=_, at, Migration, checkSchema, migration, checkInstance, samePath}
 use Rattle.schema.specs.declared.Schema.{Schema}
 use Rattle.schema.specs.declared.JudgedPath.{JudgedPath}
 use Rattle.schema.specs.Decoded.{graphOf, pathOf, schemaOf, judgedSchema}
@@ -14,7 +14,6 @@ use Rattle.instance.specs.declared.Instance.{Instance}
 use Rattle.instance.specs.Decoded.{tablesOf, judgedInstance}
 use Rattle.mapping.specs.declared.Mapping.{Mapping}
 use Rattle.mapping.specs.Decoded.{mappingOf, judgedMapping}
-use Rattle.migration.specs.declared.Refusal.{Refusal}
 use Rattle.migration.specs.Answers.{orNext, outcomeOf}
 use Rattle.migration.proofs.Refusing.{refusal, judged-at, then, yields, or-assoc}
 

@@ -2,3 +2,5 @@ pub mod Refusing
 pub mod Checking
 pub mod Trays
 pub mod Migrating
+pub mod Opening
+pub mod Partners

@@ -40,6 +40,10 @@ module _ {A B : Type 0} {o : Outcome A} (r : Refusal) (a : A) (e : outcomeOf r a
       go true h = d
       go false h = rw h
 
+  -- a step that was refused
+  pub stops : (b : B) (k : A → Outcome B) → (r .number ≡ 0 → ⊥) → outcomeOf r b ≡ (o >>= k)
+  stops b k some = some-refusal r b some ∙ ap (λ (o : Outcome A). o >>= k) (sym (some-refusal r a some) ∙ e)
+
   -- a step, and what is made of it
   pub yields : (f : A → B) → outcomeOf r (f a) ≡ (o >>= λ a. accepted (f a))
   yields f = go (eqb (r .number) 0) ∙ ap (λ (o : Outcome A). o >>= λ a. accepted (f a)) e
@@ -47,6 +51,11 @@ module _ {A B : Type 0} {o : Outcome A} (r : Refusal) (a : A) (e : outcomeOf r a
       go : (t : Bool) → cond t (accepted (f a)) (refused (r .number) (r .place)) ≡ (cond t (accepted a) (refused (r .number) (r .place)) >>= λ a. accepted (f a))
       go true = refl
       go false = refl
+
+-- steps grouped otherwise
+pub bind-assoc : {A B C : Type 0} (o : Outcome A) (f : A → Outcome B) (g : B → Outcome C) (h : A → Outcome C) → ((a : A) → (f a >>= g) ≡ h a) → ((o >>= f) >>= g) ≡ (o >>= h)
+bind-assoc (refused n place) f g h e = refl
+bind-assoc (accepted a) f g h e = e a
 
 -- a test of all sheets together
 pub tested : (b : Bool) (n : ℕ) → (n ≡ 0 → ⊥) → outcomeOf (refusal (cond b 0 n) 0) tt ≡ ensure b n

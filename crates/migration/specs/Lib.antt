@@ -1,3 +1,5 @@
 pub mod Answers
 pub mod Opened
 pub mod Migrated
+pub mod Sides
+pub mod Matched

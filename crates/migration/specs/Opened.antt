@@ -1,5 +1,4 @@
 -- What the judges of S, T and the mapping give together.
-use Prim.Native.Nat.{ℕ}
 use mathlib.Core.Path.{_≡_}
 use Rattle.meaning.specs.Calls.{Outcome, Migration}
 use Rattle.schema.specs.Decoded.{schemaOf}
@@ -11,7 +10,12 @@ use Rattle.migration.specs.Answers.{outcomeOf}
 abbrev pub migrationOf : Opened → Migration
 migrationOf o = record { S = schemaOf (o .source); T = schemaOf (o .target); F = mappingOf (o .source) (o .mapping) }
 
+-- what a migration relies on
+pub record Ready (o : Opened) : Type 0 where
+  pub schemas : Schemas (o .source) (o .target) (o .«source_paths») (o .«target_paths»)
+  pub mapping : Sound (o .source) (o .target) (o .«source_paths») (o .mapping)
+
 pub record Opens (o : Opened) (M : Outcome Migration) : Type 0 where
   pub says : outcomeOf (o .refusal) (migrationOf o) ≡ M
   pub schemas : Schemas (o .source) (o .target) (o .«source_paths») (o .«target_paths»)
-  pub sound : (o .refusal .number ≡ 0 → Sound (o .source) (o .target) (o .«source_paths») (o .mapping))
+  pub ready : (o .refusal .number ≡ 0 → Ready o)

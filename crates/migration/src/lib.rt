@@ -2,9 +2,11 @@
 // first refusal that applies.
 mod checks;
 mod exports;
+mod matchings;
 mod migrate;
 mod open;
 mod results;
+mod sides;
 
 pub use checks::check_instance;
 pub use checks::check_mapping;

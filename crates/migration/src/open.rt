@@ -1,13 +1,19 @@
 // The sheets of S, T and a mapping, which every migration opens first.
 use crate::Refusal;
 use mapping::Mapping;
+use mapping::even::is_even;
 use mapping::judge_mapping;
 use schema::Paths;
 use schema::Schema;
 use schema::judge_schema;
 use schema::path_table;
+ghost use mathlib.Core.Path.{_≡_};
+ghost use mathlib.Core.Bool.{cond};
+ghost use Rattle.meaning.specs.Evenness.{even};
 ghost use Rattle.meaning.specs.Calls.{migration};
-ghost use Rattle.migration.specs.Opened.{Opens};
+ghost use Rattle.schema.specs.Decoded.{schemaOf};
+ghost use Rattle.mapping.specs.Decoded.{mappingOf};
+ghost use Rattle.migration.specs.Opened.{Opens, Ready};
 
 // What the three sheets say, where the refusal's number is 0. A schema that was sent back has no nodes.
 pub struct Opened {
@@ -20,7 +26,7 @@ pub struct Opened {
 }
 
 // The sheets at places 1, 2 and 3, judged.
-pub fn open(s: &[u8], t: &[u8], f: &[u8]) -> Opened
+pub(crate) fn open(s: &[u8], t: &[u8], f: &[u8]) -> Opened
     ensures { λ r. ⌜ Opens r (migration (now (s .entry)) (now (t .entry)) (now (f .entry))) ⌝ }
 {
     let source = judge_schema(s);
@@ -41,4 +47,20 @@ pub fn open(s: &[u8], t: &[u8], f: &[u8]) -> Opened
         target_paths: target_paths,
         mapping: mapping,
     }
+}
+
+// 12 where the mapping is not even, else 0.
+pub(crate) fn uneven(opened: Opened) -> u8
+    requires { ⌜ Ready opened ⌝ }
+    ensures { λ r. ⌜ r ≡ cond (even (schemaOf (opened .source)) (schemaOf (opened .target)) (mappingOf (opened .source) (opened .mapping))) 0 12 ⌝ }
+{
+    let source = opened.source;
+    let target = opened.target;
+    let source_paths = opened.source_paths;
+    let target_paths = opened.target_paths;
+    let mapping = opened.mapping;
+    if is_even(source, target, source_paths, target_paths, mapping) {
+        return 0;
+    }
+    12
 }

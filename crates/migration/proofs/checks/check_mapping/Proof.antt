@@ -1,4 +1,4 @@
-use mathlib.Core.Path.{_≡_, _∙_}
+use mathlib.Core.Path.{_∙_}
 use Rattle.migration.specs.Opened.{migrationOf}
 use Rattle.migration.proofs.Refusing.{yields}
 use borrow.Author.Needs.{needs}

@@ -1,4 +1,4 @@
-use mathlib.Core.Path.{_≡_, _∙_}
+use mathlib.Core.Path.{_∙_}
 use Rattle.migration.proofs.Checking.{schema-checked}
 use borrow.Author.Needs.{needs}
 use Rattle.migration.proofs.checks.check_schema.Statement.{statement}

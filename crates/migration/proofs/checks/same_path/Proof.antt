@@ -1,5 +1,4 @@
 use mathlib.Core.Path.{_≡_, sym, ap, _∙_}
-use mathlib.Core.Bool.{Bool}
 use Rattle.meaning.specs.PathEquality.{equal}
 use Rattle.meaning.specs.Calls.{accepted, samePath}
 use Rattle.schema.specs.Decoded.{schemaOf, pathOf}

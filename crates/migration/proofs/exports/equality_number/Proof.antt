@@ -1,4 +1,4 @@
-use mathlib.Core.Path.{_≡_, sym, ap, _∙_}
+use mathlib.Core.Path.{sym, ap, _∙_}
 use Rattle.migration.specs.declared.Equality.{Equality}
 use Rattle.migration.specs.Answers.{equalityOf, encoded, answered}
 use borrow.Author.Needs.{needs}

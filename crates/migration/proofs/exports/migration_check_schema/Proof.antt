@@ -1,4 +1,4 @@
-use mathlib.Core.Path.{_≡_, ap, _∙_}
+use mathlib.Core.Path.{ap, _∙_}
 use Rattle.meaning.specs.Calls.{Outcome}
 use Rattle.migration.specs.Answers.{encoded, checked}
 use borrow.Author.Needs.{needs}

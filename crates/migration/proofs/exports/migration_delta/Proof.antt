@@ -1,5 +1,5 @@
 use Prim.Native.Nat.{ℕ}
-use mathlib.Core.Path.{_≡_, ap, _∙_}
+use mathlib.Core.Path.{ap, _∙_}
 use Rattle.migration.specs.Answers.{returned}
 use borrow.Author.Needs.{needs}
 use Rattle.migration.proofs.exports.migration_delta.Statement.{statement}

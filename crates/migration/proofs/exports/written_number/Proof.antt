@@ -1,4 +1,4 @@
-use mathlib.Core.Path.{_≡_, sym, ap, _∙_}
+use mathlib.Core.Path.{sym, ap, _∙_}
 use Rattle.migration.specs.declared.Written.{Written}
 use Rattle.migration.specs.Answers.{writtenOf, encoded}
 use borrow.Author.Needs.{needs}

@@ -1,4 +1,4 @@
-use mathlib.Core.Path.{_≡_, sym, ap, _∙_}
+use mathlib.Core.Path.{sym, ap, _∙_}
 use Rattle.migration.specs.declared.Refusal.{Refusal}
 use Rattle.migration.proofs.Refusing.{refusal, none-first, none-next}
 use Rattle.migration.proofs.Migrating.{delta-made, delta-stopped}
@@ -33,7 +33,7 @@ delta-requires c κs =
     let i = c .before .before .before .before .before .before .before .before .before .before .before .judge-instance in
     let r = refusal (i .result .fault) 4 in
     let e = ap (λ (r : Refusal). r .number) (sym (c .before .before .before .before .before .before .before .or .ensures)) ∙ c .before .before .before .before .before .if1 .taken in
-    let m = o .ensures .sound (none-first (o .result .refusal) r e) in
+    let m = (o .ensures .ready (none-first (o .result .refusal) r e)) .mapping in
     (record { source = o .ensures .schemas .source; target = o .ensures .schemas .target; short = m .short; fits = m .fits }, i .ensures .limits, i .ensures .accepted (none-next (o .result .refusal) r e) .links-in, search needs, c .before .before .before .before .before .before .before .before .before .before .before .before .before .before .before .before .before .before .before .before .before .before .before .pre)
 
 overfull-requires : tie.Need-overfull-requires

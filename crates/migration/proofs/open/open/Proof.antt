@@ -1,4 +1,5 @@
-use mathlib.Core.Path.{_≡_, sym, ap, _∙_}
+use mathlib.Core.Path.{sym, ap, _∙_}
+use Rattle.mapping.specs.Judged.{Schemas}
 use Rattle.migration.specs.declared.Refusal.{Refusal}
 use Rattle.migration.specs.Answers.{orNext, outcomeOf}
 use Rattle.migration.specs.Opened.{migrationOf}
@@ -36,10 +37,11 @@ returns c =
     let m = c .before .before .judge-mapping in
     let x = c .before .before .before .before .before .before .before .before .before .before .args in
     let joined = c .or2 .ensures ∙ ap (λ (r : Refusal). orNext r (refusal (m .result .fault) 3)) (c .before .or .ensures) in
+    let schemas : Schemas (source .result) (target .result) (c .before .before .before .before .path-table .result) (c .before .before .before .path-table2 .result) = record { source = source .ensures .sound; target = target .ensures .sound; source-paths = c .before .before .before .before .path-table .ensures; target-paths = c .before .before .before .path-table2 .ensures } in
     record {
       says = ap (λ (r : Refusal). outcomeOf r (migrationOf (record { refusal = r; source = source .result; target = target .result; «source_paths» = c .before .before .before .before .path-table .result; «target_paths» = c .before .before .before .path-table2 .result; mapping = m .result }))) joined ∙ mapping-opened (source .result) (x .s .now) (source .ensures .says) (target .result) (m .result) (x .t .now) (x .f .now) (target .ensures .says) (m .ensures .says);
-      schemas = record { source = source .ensures .sound; target = target .ensures .sound; source-paths = c .before .before .before .before .path-table .ensures; target-paths = c .before .before .before .path-table2 .ensures };
-      sound = λ e. m .ensures .sound (none-next (orNext (refusal (source .result .fault) 1) (refusal (target .result .fault) 2)) (refusal (m .result .fault) 3) (ap (λ (r : Refusal). r .number) (sym joined) ∙ e));
+      schemas = schemas;
+      ready = λ e. record { schemas = schemas; mapping = m .ensures .sound (none-next (orNext (refusal (source .result .fault) 1) (refusal (target .result .fault) 2)) (refusal (m .result .fault) 3) (ap (λ (r : Refusal). r .number) (sym joined) ∙ e)) };
     }
 
 pub open-spec : {M : Type 1} → statement M

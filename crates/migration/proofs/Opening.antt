@@ -1,0 +1,92 @@
+-- What the sheets of a mapping, a run and a book say together.
+use Prim.Native.Nat.{ℕ}
+use mathlib.Core.Path.{_≡_, refl, sym, ap, _∙_}
+use mathlib.Core.Bool.{Bool, true, false, cond}
+use mathlib.Core.List.{List}
+use native.Mathlib.Omega.{arith}
+use Rattle.meaning.specs.Judge.{judgeInstance}
+use Rattle.meaning.specs.Evenness.{even}
+use Rattle.meaning.specs.Calls.{accepted, _>>=_, at, ensure, migration}
+use Rattle.schema.specs.Decoded.{schemaOf}
+use Rattle.mapping.specs.Decoded.{mappingOf}
+use Rattle.instance.specs.declared.Instance.{Instance}
+use Rattle.instance.specs.Decoded.{tablesOf}
+use Rattle.instance.specs.Tested.{Tested}
+use Rattle.migration.specs.declared.Refusal.{Refusal}
+use Rattle.migration.specs.declared.open.Opened.{Opened}
+use Rattle.migration.specs.Answers.{orNext, outcomeOf}
+use Rattle.migration.specs.Opened.{migrationOf, Ready, Opens}
+use Rattle.migration.specs.Sides.{Inputs, inputs, SidesSay}
+use Rattle.migration.proofs.Refusing.{refusal, judged-at, then, yields, tested, or-none, or-some, or-assoc, none-first, none-next}
+
+-- a test that was passed
+pub passed : (b : Bool) (n : ℕ) → (n ≡ 0 → ⊥) → cond b 0 n ≡ 0 → b ≡ true
+passed true n some e = refl
+passed false n some e = absurd (some e)
+
+module _ (o : Opened) (s t f : List ℕ) (O : Opens o (migration s t f)) (run book : Instance) (links values links′ values′ i j : List ℕ)
+    (I : Tested (o .source) run links values (judgeInstance (schemaOf (o .source)) i)) (J : Tested (o .target) book links′ values′ (judgeInstance (schemaOf (o .target)) j)) where
+  abbrev is-even : Bool
+  is-even = even (schemaOf (o .source)) (schemaOf (o .target)) (mappingOf (o .source) (o .mapping))
+
+  abbrev evenness : Refusal
+  evenness = refusal (cond is-even 0 12) 0
+
+  abbrev result : Inputs
+  result = record { m = migrationOf o; run = tablesOf (o .source) run links values; book = tablesOf (o .target) book links′ values′ }
+
+  abbrev run-refusal : Refusal
+  run-refusal = refusal (run .fault) 4
+
+  abbrev book-refusal : Refusal
+  book-refusal = refusal (book .fault) 5
+
+  abbrev sheets : Refusal
+  sheets = orNext (orNext (o .refusal) run-refusal) book-refusal
+
+  inputs-told : outcomeOf (orNext sheets evenness) result ≡ inputs s t f i j
+  inputs-told =
+      rw (or-assoc (orNext (o .refusal) run-refusal) book-refusal evenness, or-assoc (o .refusal) run-refusal (orNext book-refusal evenness)) (
+      then (o .refusal) (migrationOf o) (O .says) (orNext run-refusal (orNext book-refusal evenness)) result (λ m. do
+        I ← at 4 (judgeInstance (m .S) i)
+        J ← at 5 (judgeInstance (m .T) j)
+        _ ← ensure (even (m .S) (m .T) (m .F)) 12
+        accepted (record { m = m; run = I; book = J }))
+      (then run-refusal (result .run) (judged-at (run .fault) 4 (result .run) (I .says)) (orNext book-refusal evenness) result (λ I. do
+        J ← at 5 (judgeInstance (schemaOf (o .target)) j)
+        _ ← ensure is-even 12
+        accepted (record { m = migrationOf o; run = I; book = J }))
+      (then book-refusal (result .book) (judged-at (book .fault) 5 (result .book) (J .says)) evenness result (λ J. do
+        _ ← ensure is-even 12
+        accepted (record { m = migrationOf o; run = result .run; book = J }))
+      (yields evenness tt (tested is-even 12 (λ e. omega arith)) (λ _. result)))))
+
+  module _ {r : Refusal} (e : r ≡ sheets) where
+    told : (orNext r evenness ≡ r → outcomeOf r result ≡ inputs s t f i j) × (orNext r evenness ≡ evenness → outcomeOf evenness result ≡ inputs s t f i j)
+    told = (
+      λ d. ap (λ (r : Refusal). outcomeOf r result) (sym d ∙ ap (λ (r : Refusal). orNext r evenness) e) ∙ inputs-told,
+      λ d. ap (λ (r : Refusal). outcomeOf r result) (sym d ∙ ap (λ (r : Refusal). orNext r evenness) e) ∙ inputs-told,
+    )
+
+    module _ (z : r .number ≡ 0) where
+      none : sheets .number ≡ 0
+      none = ap (λ (r : Refusal). r .number) (sym e) ∙ z
+
+      pub sides-ready : Ready o
+      sides-ready = O .ready (none-first (o .refusal) run-refusal (none-first (orNext (o .refusal) run-refusal) book-refusal none))
+
+      pub sides-open : {n : ℕ} → n ≡ cond is-even 0 12 → SidesSay (record { refusal = refusal n 0; opened = o; run = run; book = book }) links values links′ values′ (inputs s t f i j)
+      sides-open d = record {
+        says = ap (λ (n : ℕ). outcomeOf (refusal n 0) result) d ∙ told .1 (or-none r evenness z);
+        migratable = λ w. record {
+          ready = sides-ready;
+          run-limits = I .limits;
+          book-limits = J .limits;
+          run = I .accepted (none-next (o .refusal) run-refusal (none-first (orNext (o .refusal) run-refusal) book-refusal none));
+          book = J .accepted (none-next (orNext (o .refusal) run-refusal) book-refusal none);
+          is-even = passed is-even 12 (λ e. omega arith) (sym d ∙ w);
+        };
+      }
+
+    pub sides-stopped : (r .number ≡ 0 → ⊥) → SidesSay (record { refusal = r; opened = o; run = run; book = book }) links values links′ values′ (inputs s t f i j)
+    sides-stopped some = record { says = told .0 (or-some r evenness some); migratable = λ w. absurd (some w) }
