@@ -1,6 +1,1 @@
-pub mod Search
-pub mod Conflict
-pub mod Candidates
-pub mod Narrowing
-pub mod Listing
-pub mod Steps
+pub mod Components
