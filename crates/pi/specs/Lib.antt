@@ -1,3 +1,4 @@
 pub mod Components
 pub mod Gathering
 pub mod Given
+pub mod Rules
