@@ -2,3 +2,4 @@ pub mod Components
 pub mod Gathering
 pub mod Given
 pub mod Rules
+pub mod Families
