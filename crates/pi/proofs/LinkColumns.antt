@@ -26,7 +26,7 @@ use Rattle.pi.specs.Families.{Gathered, familiesOf, familyCount, Familie
 use Rattle.pi.specs.Links.{sourceOf, targetOf, placeAfter, entryOf, rowPlace, blockOf, linkRow}
 use Rattle.pi.proofs.Places.{position-upto}
 use Rattle.pi.proofs.Tracing.{width-is, place-after}
-use Rattle.pi.proofs.FamilyRows.{map-places, map-upto, row-is, entry-is}
+use Rattle.pi.proofs.ListedRows.{map-places, map-upto, row-is, entry-is}
 
 module _ {s t : Schema} {tp : Paths} {f : Mapping} {k : Components} {run : Instance} {links counts table : List ℕ} (M : Mapped s t tp f) (K : Gathered s t f k) (L : FamiliesUpto s t f run links (t .graph .nodes) counts table) where
   -- the row at the end of e from d to h of a row at d
@@ -63,13 +63,13 @@ module _ {s t : Schema} {tp : Paths} {f : Mapping} {k : Components} {run : Insta
       restricted : tabulate (getD (k .count) there 0) taken ≡ restrictTo here there e (family x)
       restricted =
           ap (λ (n : ℕ). tabulate n taken) (width-is K there there-in)
-          ∙ tabulate-same (length (componentsOf s t f there)) (λ j m. entry-is K L here here-in x h (placeAfter (t .graph) tp k e j) ∙ ap (λ (p : ℕ). getD (family x) p 0) (place-after M K e l j m))
+          ∙ tabulate-same (length (componentsOf s t f there)) (λ j m. entry-is M K L here here-in x h (placeAfter (t .graph) tp k e j) ∙ ap (λ (p : ℕ). getD (family x) p 0) (place-after M K e l j m))
           ∙ map-places (λ c. getD (family x) (componentAt (schemaOf t) (componentsOf s t f here) (c .node) (path here (e ∷ c .first .edges))) 0) noComponent (componentsOf s t f there)
 
       placed : (w : List ℕ) → rowPlace table (blockOf counts (k .count) there .first) (getD counts there 0) w (getD (k .count) there 0) ≡ position (sameList w) (familiesOf s t f run links there)
       placed w =
           ap (λ (n : ℕ). position (λ y. sameList w (columnOf table (64 * (blockOf counts (k .count) there .first + y)) (getD (k .count) there 0))) (upto n)) (L .count there there-in)
-          ∙ position-upto (λ y. sameList w (columnOf table (64 * (blockOf counts (k .count) there .first + y)) (getD (k .count) there 0))) (sameList w) [] (familiesOf s t f run links there) (λ y m. ap (sameList w) (row-is K L there there-in y m))
+          ∙ position-upto (λ y. sameList w (columnOf table (64 * (blockOf counts (k .count) there .first + y)) (getD (k .count) there 0))) (sameList w) [] (familiesOf s t f run links there) (λ y m. ap (sameList w) (row-is M K L there there-in y m))
 
       pub link-is : linkRow (t .graph) tp k counts table e x ≡ linkTo here there e (family x)
       link-is =

@@ -4,9 +4,9 @@ use mathlib.Core.Path.{_≡_, refl, sym, ap, _∙_, subst}
 use mathlib.Core.Bool.{Bool, true, _&&_}
 use mathlib.Core.List.{List, [], _∷_, _++_, List·Memᴰ}
 use native.Mathlib.Omega.{arith}
-use borrow.Author.Tests.{leb-true, lt-ltb, eq-eqb}
+use borrow.Author.Tests.{lt-ltb, eq-eqb}
 use lib.ListN.{length, getD}
-use lib.Dec.{leb, ltb, eqb}
+use lib.Dec.{ltb, eqb}
 use Rattle.theory.specs.Schema.{IsPath}
 use Rattle.theory.proofs.Order.{mem-getD}
 use Rattle.meaning.specs.Schema as meaning
@@ -14,7 +14,7 @@ use Rattle.meaning.specs.Schema.{Path, path, source, target, joins, pathsFrom, 
 use Rattle.meaning.specs.Views as views
 use Rattle.meaning.specs.Pi.{componentAt, noComponent}
 use Rattle.meaning.proofs.Tabulate.{and-both}
-use Rattle.meaning.proofs.Lists.{and-intro, upto-all}
+use Rattle.meaning.proofs.Lists.{and-intro}
 use Rattle.agreement.proofs.Paths.{pathCount, numberOf, pathAt, number-in, number-path, path-iff, path-short, allPaths-each, pathsFrom-each}
 use Rattle.schema.specs.declared.Schema.{Schema}
 use Rattle.schema.specs.declared.Paths.{Paths}
@@ -37,16 +37,14 @@ use Rattle.pi.specs.Components.{componentsOf, componentOf}
 use Rattle.pi.specs.Families.{Gathered}
 use Rattle.pi.specs.Links.{Extends, sourceOf, targetOf, pathAfter, placeAfter, Traced}
 use Rattle.pi.proofs.Places.{first-of, place-is}
+use Rattle.pi.proofs.ComponentFacts.{few-at}
 
 module _ {s t : Schema} {f : Mapping} {k : Components} (K : Gathered s t f k) (d : ℕ) (l : d < t .graph .nodes) where
-  pub few-at : length (componentsOf s t f d) ≤ 64
-  few-at = leb-true _ _ (upto-all (λ x. leb (length (componentsOf s t f x)) 64) (t .graph .nodes) (K .few) d l)
-
   pub width-is : getD (k .count) d 0 ≡ length (componentsOf s t f d)
   width-is = K .all .each d l .count
 
   pub width-few : getD (k .count) d 0 ≤ 64
-  width-few = rw width-is few-at
+  width-few = rw width-is (few-at K d l)
 
 -- ---- the first path of a component, by its number
 module _ {s t : Schema} {tp : Paths} {f : Mapping} {k : Components} (M : Mapped s t tp f) (K : Gathered s t f k) (d : ℕ) (l : d < t .graph .nodes) (j : ℕ) (h : j < length (componentsOf s t f d)) where

@@ -35,8 +35,8 @@ use Rattle.pi.specs.Families.{Gathered, familiesOf, familyCount, Familie
 use Rattle.pi.specs.Links.{entryOf}
 use Rattle.pi.specs.Values.{attributeOver, homeOf, valuePlace, valueRow}
 use Rattle.pi.proofs.Places.{place-is}
-use Rattle.pi.proofs.Tracing.{few-at}
-use Rattle.pi.proofs.FamilyRows.{map-places, map-upto, entry-list, entry-is}
+use Rattle.pi.proofs.ComponentFacts.{few-at}
+use Rattle.pi.proofs.ListedRows.{map-places, map-upto, entry-list, entry-is}
 
 -- ---- the attribute whose image is b
 module _ (s t : Schema) (f : Mapping) (B : isBijective (schemaOf t) (mappingOf s f) ≡ true) where
@@ -87,7 +87,7 @@ module _ {s t : Schema} {tp : Paths} {f : Mapping} {k : Components} {run : Insta
 
     read : (x : ℕ) → x < familyCount s t f run links d → valueRow s t tp k (f .attribute) (run .counts) counts table values b x ≡ valueFrom a (homeOf s a) d (family x)
     read x h =
-        ap (entryOf values (512 * a) (rowsOf (s .node) (run .counts) a)) (entry-is K L d d-in x h (valuePlace s t tp k a b) ∙ ap (λ (p : ℕ). getD (family x) p 0) place-of)
+        ap (entryOf values (512 * a) (rowsOf (s .node) (run .counts) a)) (entry-is M K L d d-in x h (valuePlace s t tp k a b) ∙ ap (λ (p : ℕ). getD (family x) p 0) place-of)
         ∙ value-is s run links values a (getD (family x) (componentAt (schemaOf t) (componentsOf s t f d) (homeOf s a) (path d [])) 0) a-in
 
     module _ (r : List ℕ) (same : (x : ℕ) → x < rowsOf (t .node) counts b → getD r (512 * b + x) 0 ≡ valueRow s t tp k (f .attribute) (run .counts) counts table values b x) where
