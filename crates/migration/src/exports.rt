@@ -9,9 +9,10 @@ use crate::checks::check_mapping;
 use crate::checks::check_schema;
 use crate::checks::same_path;
 use crate::migrate::delta;
+use crate::migrate::pi;
 use crate::migrate::sigma;
 ghost use mathlib.Core.Path.{_≡_};
-ghost use Rattle.meaning.specs.Calls.{refused, checkSchema, checkMapping, checkInstance, samePath, deltaTables, sigmaTables, sheetOf, inTray};
+ghost use Rattle.meaning.specs.Calls.{refused, checkSchema, checkMapping, checkInstance, samePath, deltaTables, sigmaTables, piTables, sheetOf, inTray};
 ghost use Rattle.migration.specs.Answers.{verdictOf, equalityOf, writtenOf, encoded, checked, answered, returned};
 
 fn refusal_number(refusal: Refusal) -> u64
@@ -88,4 +89,11 @@ pub extern "C" fn migration_sigma(s: &[u8], t: &[u8], f: &[u8], i: &[u8], tray: 
     ensures { λ r. ⌜ (r, now (tray .exit)) ≡ returned (inTray (now (tray .entry)) (sheetOf (sigmaTables (now (s .entry)) (now (t .entry)) (now (f .entry)) (now (i .entry))))) ⌝ }
 {
     written_number(sigma(s, t, f, i, &mut *tray))
+}
+
+#[no_mangle]
+pub extern "C" fn migration_pi(s: &[u8], t: &[u8], f: &[u8], i: &[u8], tray: &mut [u8]) -> u64
+    ensures { λ r. ⌜ (r, now (tray .exit)) ≡ returned (inTray (now (tray .entry)) (sheetOf (piTables (now (s .entry)) (now (t .entry)) (now (f .entry)) (now (i .entry))))) ⌝ }
+{
+    written_number(pi(s, t, f, i, &mut *tray))
 }

@@ -14,6 +14,7 @@ pub use checks::check_mapping;
 pub use checks::check_schema;
 pub use checks::same_path;
 pub use migrate::delta;
+pub use migrate::pi;
 pub use migrate::sigma;
 ghost use mathlib.Core.Path.{_≡_};
 ghost use Rattle.migration.specs.Answers.{orNext};
