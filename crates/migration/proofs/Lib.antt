@@ -5,3 +5,4 @@ pub mod Migrating
 pub mod Pushing
 pub mod Opening
 pub mod Partners
+pub mod Texts

@@ -4,3 +4,4 @@ pub mod Runs
 pub mod Migrated
 pub mod Sides
 pub mod Matched
+pub mod Printed

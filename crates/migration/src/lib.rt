@@ -5,6 +5,7 @@ mod exports;
 mod matchings;
 mod migrate;
 mod open;
+mod printing;
 mod results;
 mod runs;
 mod sides;
@@ -15,6 +16,7 @@ pub use checks::check_schema;
 pub use checks::same_path;
 pub use migrate::delta;
 pub use migrate::sigma;
+pub use printing::push;
 ghost use mathlib.Core.Path.{_≡_};
 ghost use Rattle.migration.specs.Answers.{orNext};
 

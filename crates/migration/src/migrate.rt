@@ -114,7 +114,7 @@ fn push_run(
 }
 
 // Sigma's tables in working arrays.
-fn sigma_tables(
+pub(crate) fn sigma_tables(
     s: &[u8],
     t: &[u8],
     f: &[u8],
