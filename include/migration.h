@@ -64,6 +64,10 @@ uint64_t migration_same_path(const uint8_t *s, size_t s_len, const uint8_t *p, s
 uint64_t migration_delta(const uint8_t *s, size_t s_len, const uint8_t *t, size_t t_len, const uint8_t *f, size_t f_len,
                          const uint8_t *j, size_t j_len, uint8_t *tray, size_t tray_len);
 
+/* Sigma along an even mapping from S to T (places 1 to 3) of an instance of S (place 4): an instance sheet of T, written to the tray. */
+uint64_t migration_sigma(const uint8_t *s, size_t s_len, const uint8_t *t, size_t t_len, const uint8_t *f, size_t f_len,
+                         const uint8_t *i, size_t i_len, uint8_t *tray, size_t tray_len);
+
 #ifdef __cplusplus
 }
 #endif
