@@ -4,3 +4,5 @@ pub mod Trays
 pub mod Migrating
 pub mod Opening
 pub mod Partners
+pub mod Validity
+pub mod Judging

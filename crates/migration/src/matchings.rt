@@ -1,15 +1,22 @@
 // The checkers and the turnings of matchings.
+use crate::Refusal;
+use crate::results::overfull;
+use crate::sides::Sides;
 use instance::Instance;
 use instance::decode::total;
 use instance::matching::read_matching;
 use matching::is_matching;
 use schema::Schema;
 ghost use mathlib.Core.Path.{_≡_};
+ghost use Prim.Native.Nat.{_≤_};
+ghost use lib.ListN.{length};
 ghost use Rattle.meaning.specs.Matching.{judgeMatching};
 ghost use Rattle.schema.specs.Decoded.{schemaOf};
-ghost use Rattle.instance.specs.Decoded.{tablesOf};
-ghost use Rattle.matching.specs.Compared.{Comparable};
-ghost use Rattle.migration.specs.Matched.{judgedMatching};
+ghost use Rattle.instance.specs.Decoded.{tablesOf, Room};
+ghost use Rattle.matching.specs.Compared.{partnersOf, Comparable};
+ghost use Rattle.migration.specs.Answers.{outcomeOf};
+ghost use Rattle.migration.specs.Sides.{inputsOf, Migratable};
+ghost use Rattle.migration.specs.Matched.{judgedMatching, rawList};
 
 // Reads the partners of A's rows in B: 0, or the number with which the sheet is sent back.
 fn judge_matching(
@@ -37,4 +44,58 @@ fn judge_matching(
         return 17;
     }
     fault
+}
+
+// The raw side of accepted inputs: 15, or the matching sheet's refusal; where there is none, the partners of the run's rows stand in list.
+fn judge_raw(
+    x: Sides,
+    run_links: &[u32],
+    run_values: &[u32],
+    book_links: &[u32],
+    book_values: &[u32],
+    sheet: &[u8],
+    list: &mut [u32],
+) -> Refusal
+    requires { ⌜ Migratable x (now «run_links») (now «run_values») (now «book_links») (now «book_values») × Room (now «run_links») (now «run_values») × Room (now «book_links») (now «book_values») × (512 ≤ length (now list)) ⌝ }
+    ensures { λ r. ⌜ outcomeOf r (partnersOf (x .opened .source) (x .run) (now (list .exit))) ≡ rawList (inputsOf x (now («run_links» .entry)) (now («run_values» .entry)) (now («book_links» .entry)) (now («book_values» .entry))) (now (sheet .entry)) ⌝ }
+{
+    let mut links = [0u32; Instance::LINKS];
+    let mut values = [0u32; Instance::VALUES];
+    let opened = x.opened;
+    let source = opened.source;
+    let target = opened.target;
+    let mapping = opened.mapping;
+    let book = x.book;
+    let pulled = delta::delta(
+        source,
+        target,
+        mapping,
+        book,
+        book_links,
+        book_values,
+        &mut links,
+        &mut values,
+    );
+    let size = overfull(source, pulled);
+    if size == 0 {
+        let run = x.run;
+        return Refusal {
+            number: judge_matching(
+                source,
+                run,
+                run_links,
+                run_values,
+                pulled,
+                &links,
+                &values,
+                sheet,
+                &mut *list,
+            ),
+            place: 6,
+        };
+    }
+    Refusal {
+        number: size,
+        place: 0,
+    }
 }
