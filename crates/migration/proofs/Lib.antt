@@ -6,3 +6,4 @@ pub mod Opening
 pub mod Partners
 pub mod Validity
 pub mod Judging
+pub mod Grouping

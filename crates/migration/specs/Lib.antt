@@ -3,3 +3,4 @@ pub mod Opened
 pub mod Migrated
 pub mod Sides
 pub mod Matched
+pub mod Turnable

@@ -2,6 +2,7 @@
 use crate::Refusal;
 use crate::results::overfull;
 use crate::sides::Sides;
+use crate::sides::open_sides;
 use instance::Instance;
 use instance::decode::total;
 use instance::matching::read_matching;
@@ -17,6 +18,7 @@ ghost use Rattle.matching.specs.Compared.{partnersOf, Comparable};
 ghost use Rattle.migration.specs.Answers.{outcomeOf};
 ghost use Rattle.migration.specs.Sides.{inputsOf, Migratable};
 ghost use Rattle.migration.specs.Matched.{judgedMatching, rawList};
+ghost use Rattle.migration.specs.Turnable.{matchedRaw, Matches};
 
 // Reads the partners of A's rows in B: 0, or the number with which the sheet is sent back.
 fn judge_matching(
@@ -98,4 +100,47 @@ fn judge_raw(
         number: size,
         place: 0,
     }
+}
+
+// The tests of the raw side, up to the matching sheet k.
+fn match_raw(s: &[u8], t: &[u8], f: &[u8], i: &[u8], j: &[u8], k: &[u8], list: &mut [u32]) -> Sides
+    requires { ⌜ 512 ≤ length (now list) ⌝ }
+    ensures { λ r. ⌜ Matches r (now (list .exit)) (matchedRaw (now (s .entry)) (now (t .entry)) (now (f .entry)) (now (i .entry)) (now (j .entry)) (now (k .entry))) ⌝ }
+{
+    let mut run_links = [0u32; Instance::LINKS];
+    let mut run_values = [0u32; Instance::VALUES];
+    let mut book_links = [0u32; Instance::LINKS];
+    let mut book_values = [0u32; Instance::VALUES];
+    let x = open_sides(
+        s,
+        t,
+        f,
+        i,
+        j,
+        &mut run_links,
+        &mut run_values,
+        &mut book_links,
+        &mut book_values,
+    );
+    let first = x.refusal;
+    if first.number == 0 {
+        let opened = x.opened;
+        let run = x.run;
+        let book = x.book;
+        return Sides {
+            refusal: judge_raw(
+                x,
+                &run_links,
+                &run_values,
+                &book_links,
+                &book_values,
+                k,
+                &mut *list,
+            ),
+            opened: opened,
+            run: run,
+            book: book,
+        };
+    }
+    x
 }
