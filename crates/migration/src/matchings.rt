@@ -1,4 +1,4 @@
-// The checkers and the turnings of matchings.
+// The tests of matchings: the judge of a matching sheet, and all tests of a checker or a turning before the tray.
 use crate::Refusal;
 use crate::results::overfull;
 use crate::sides::Sides;
@@ -103,7 +103,15 @@ fn judge_raw(
 }
 
 // The tests of the raw side, up to the matching sheet k.
-fn match_raw(s: &[u8], t: &[u8], f: &[u8], i: &[u8], j: &[u8], k: &[u8], list: &mut [u32]) -> Sides
+pub(crate) fn match_raw(
+    s: &[u8],
+    t: &[u8],
+    f: &[u8],
+    i: &[u8],
+    j: &[u8],
+    k: &[u8],
+    list: &mut [u32],
+) -> Sides
     requires { ⌜ 512 ≤ length (now list) ⌝ }
     ensures { λ r. ⌜ Matches r (now (list .exit)) (matchedRaw (now (s .entry)) (now (t .entry)) (now (f .entry)) (now (i .entry)) (now (j .entry)) (now (k .entry))) ⌝ }
 {
