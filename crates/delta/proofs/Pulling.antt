@@ -37,7 +37,7 @@ map-tabulate : {A B : Type 0} (h : A → B) (n : ℕ) (f : ℕ → A) → map h 
 map-tabulate h zero f = refl
 map-tabulate {B = B} h (suc n) f = ap (λ (l : List B). h (f 0) ∷ l) (map-tabulate h n (λ i. f (suc i)))
 
-tabulate-upto : {A : Type 0} (n : ℕ) {g f : ℕ → A} → ((i : ℕ) → i < n → g i ≡ f i) → tabulate n g ≡ map f (upto n)
+pub tabulate-upto : {A : Type 0} (n : ℕ) {g f : ℕ → A} → ((i : ℕ) → i < n → g i ≡ f i) → tabulate n g ≡ map f (upto n)
 tabulate-upto n {f = f} h = tabulate-same n h ∙ sym (ap (map f) (upto-tabulate n) ∙ map-tabulate f n (λ i. i))
 
 module _ {s t : Schema} {f : Mapping} {j : Instance} (B : Fitting s t f) (L : Limits t j) where

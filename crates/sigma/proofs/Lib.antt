@@ -1,3 +1,4 @@
 pub mod Joining
 pub mod Lifting
 pub mod PathEdges
+pub mod Pushing

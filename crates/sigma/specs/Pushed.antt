@@ -1,11 +1,21 @@
--- What Sigma's links rely on, and what it promises of its counts.
+-- What Sigma relies on, and what it promises of its tables.
 use Prim.Native.Nat.{ℕ, _<_}
+use mathlib.Core.Path.{_≡_}
+use mathlib.Core.Bool.{true}
 use mathlib.Core.List.{List}
-use lib.ListN.{getD}
+use lib.ListN.{length, getD}
+use Rattle.meaning.specs.Formats as meaning
+use Rattle.meaning.specs.Judge.{linksInRange}
+use Rattle.meaning.specs.Evenness.{even}
+use Rattle.meaning.specs.Sigma.{sigma}
 use Rattle.schema.specs.declared.Schema.{Schema}
 use Rattle.schema.specs.declared.Paths.{Paths}
+use Rattle.schema.specs.Decoded.{schemaOf}
 use Rattle.instance.specs.declared.Instance.{Instance}
+use Rattle.instance.specs.Decoded.{tablesOf, Limits}
 use Rattle.mapping.specs.declared.Mapping.{Mapping}
+use Rattle.mapping.specs.Decoded.{mappingOf}
+use Rattle.mapping.specs.Judged.{Schemas, Sound}
 use Rattle.mapping.specs.Lifts.{joinedBefore}
 use Rattle.delta.specs.Stored.{Counts}
 use Rattle.sigma.specs.Lifted.{LiftsLead}
@@ -17,3 +27,22 @@ pub record Counted (s t : Schema) (f : Mapping) (run r : Instance) : Type 0 wher
 -- the lifts of each edge of T can be followed
 pub record AllLead (s t : Schema) (p : Paths) (f : Mapping) (run : Instance) (lifts links : List ℕ) : Type 0 where
   pub each : (e : ℕ) → e < t .graph .edges → LiftsLead p (f .node) (run .counts) lifts links (s .graph .nodes) e (getD (t .graph .source) e 0)
+
+-- ---- tables
+
+-- an even mapping from S to T with the tables of their paths, and a run over S whose links exist
+pub record Pushable (s t : Schema) (sp tp : Paths) (f : Mapping) (run : Instance) (links values : List ℕ) : Type 0 where
+  pub schemas : Schemas s t sp tp
+  pub mapping : Sound s t sp f
+  pub is-even : even (schemaOf s) (schemaOf t) (mappingOf s f) ≡ true
+  pub limits : Limits s run
+  pub links-in : linksInRange (schemaOf s) (tablesOf s run links values) ≡ true
+
+-- Sigma of the tables of a run
+abbrev pub sigmaOf : Schema → Schema → Mapping → Instance → List ℕ → List ℕ → meaning.Instance
+sigmaOf s t f run links values = sigma (schemaOf s) (schemaOf t) (mappingOf s f) (tablesOf s run links values)
+
+-- Sigma's tables stand in working arrays
+pub record Pushed (s t : Schema) (f : Mapping) (run : Instance) (links values : List ℕ) (r : Instance) (followed copied : List ℕ) : Type 0 where
+  pub says : tablesOf t r followed copied ≡ sigmaOf s t f run links values
+  pub long : length (r .counts) ≡ 16

@@ -1,21 +1,22 @@
-// Sigma on decoded tables, its counts, links and values: the table at d is the joined list of the tables at all nodes over d, an edge follows its
-// lift at each node, an attribute copies the column over it at each node.
+// Sigma on decoded tables: the table at d is the joined list of the tables at all nodes over d, an edge follows its lift at each node, an
+// attribute copies the column over it at each node.
 pub mod columns;
 
 use columns::link_column;
 use columns::value_column;
 use instance::Instance;
 use mapping::Mapping;
+use mapping::lifts::edge_lifts;
 use mapping::lifts::rows_before;
 use schema::Paths;
 use schema::Schema;
 ghost use mathlib.Core.Path.{_≡_};
 ghost use Prim.Native.Nat.{_+_, _*_, _≤_};
 ghost use lib.ListN.{length, getD};
-ghost use Rattle.instance.specs.Decoded.{Limits};
+ghost use Rattle.instance.specs.Decoded.{Limits, Room};
 ghost use Rattle.sigma.specs.Joined.{JoinedColumns, valueOver};
 ghost use Rattle.sigma.specs.Lifted.{liftRow};
-ghost use Rattle.sigma.specs.Pushed.{Counted, AllLead};
+ghost use Rattle.sigma.specs.Pushed.{Counted, AllLead, Pushable, Pushed};
 
 // The counts of Sigma's tables.
 pub fn sigma_counts(s: Schema, t: Schema, f: Mapping, run: Instance) -> Instance
@@ -79,4 +80,27 @@ pub fn sigma_links(
         link_column(s, sp, f, run, lifts, links, e, d, &mut *out);
         e += 1;
     }
+}
+
+// Sigma of an accepted run along an even mapping: its links are followed, and its values copied, into working arrays.
+pub fn sigma(
+    s: Schema,
+    t: Schema,
+    sp: Paths,
+    tp: Paths,
+    f: Mapping,
+    run: Instance,
+    links: &[u32],
+    values: &[u32],
+    followed: &mut [u32],
+    copied: &mut [u32],
+) -> Instance
+    requires { ⌜ Pushable s t sp tp f run (now links) (now values) × Room (now links) (now values) × Room (now followed) (now copied) ⌝ }
+    ensures { λ r. ⌜ Pushed s t f run (now (links .entry)) (now (values .entry)) r (now (followed .exit)) (now (copied .exit)) ⌝ }
+{
+    let lifts = edge_lifts(s, t, sp, tp, f);
+    let pushed = sigma_counts(s, t, f, run);
+    sigma_links(s, t, sp, f, run, &lifts, links, &mut *followed);
+    sigma_values(s, t, f, run, values, &mut *copied);
+    pushed
 }
