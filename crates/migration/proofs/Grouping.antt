@@ -122,8 +122,8 @@ module _ (x : Sides) (links values links′ values′ list : List ℕ) (s t f i 
       → Matches (record { refusal = r; opened = x .opened; run = x .run; book = x .book }) list (inputs s t f i j >>= follows)
   side-judged r z e = record {
     says = yields r (partnersOf (x .opened .source) (x .run) list) e (turnable y) ∙ ap (λ (o : Outcome Inputs). o >>= follows) (sym (no-refusal (x .refusal) y z) ∙ X .says);
-    pushable = λ _. let M = X .migratable z in record { ready = M .ready; limits = M .run-limits; rows = pushed-rows M };
+    ready = λ _. let M = X .migratable z in record { ready = M .ready; limits = M .run-limits; rows = pushed-rows M };
   }
 
   pub side-stopped : (x .refusal .number ≡ 0 → ⊥) → Matches x list (inputs s t f i j >>= follows)
-  side-stopped some = record { says = stops (x .refusal) y (X .says) (turnableOf x list) follows some; pushable = λ z. absurd (some z) }
+  side-stopped some = record { says = stops (x .refusal) y (X .says) (turnableOf x list) follows some; ready = λ z. absurd (some z) }

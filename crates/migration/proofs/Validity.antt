@@ -1,6 +1,7 @@
 -- Accepted sheets in working arrays are valid, as `agreement` has it; so Sigma of the run has as many rows as the run, and 15 never arises for it.
 use Prim.Native.Nat.{ℕ, _*_, _+_, _<_, _≤_}
 use mathlib.Core.Path.{_≡_, sym, ap, _∙_}
+use mathlib.Core.Bool.{true}
 use mathlib.Core.List.{List, []}
 use lib.ListN.{length, getD}
 use Rattle.theory.specs.Mapping.{Even}
@@ -12,20 +13,20 @@ use Rattle.meaning.specs.Formats as formats
 use Rattle.meaning.specs.Formats.{kinds}
 use Rattle.meaning.specs.Views.{count}
 use Rattle.meaning.specs.Views as views
+use Rattle.meaning.specs.Judge.{linksInRange}
 use Rattle.meaning.specs.Sigma.{sigma}
-use Rattle.meaning.specs.Calls.{accepted, ensureFits}
 use Rattle.meaning.proofs.Facts.{Shaped}
-use Rattle.agreement.proofs.Instances.{instance-is}
+use Rattle.agreement.proofs.Instances.{instance-is, links-pass}
 use Rattle.agreement.proofs.Mappings.{mapping-is}
 use Rattle.agreement.proofs.Valid.{ValidMapping, ValidInstance}
 use Rattle.agreement.proofs.Evenness.{even-iff}
-use Rattle.agreement.proofs.Sigma.{sigma-total, sigma-valid, sigma-never-overfull}
+use Rattle.agreement.proofs.Sigma.{sigma-total, sigma-valid}
 use Rattle.schema.specs.declared.Schema.{Schema}
 use Rattle.schema.specs.Decoded.{schemaOf}
 use Rattle.schema.specs.Judged.{Sound}
 use Rattle.schema.proofs.GraphEdges.{edges-count, source-at}
 use Rattle.instance.specs.declared.Instance.{Instance}
-use Rattle.instance.specs.Decoded.{rowsOf, columnOf, tablesOf, Limits}
+use Rattle.instance.specs.Decoded.{rowsOf, columnOf, columnsOf, tablesOf, Limits}
 use Rattle.instance.specs.Tested.{Accepted}
 use Rattle.instance.proofs.SoundSchema.{source-in, home-in}
 use Rattle.mapping.specs.Decoded.{mappingOf}
@@ -45,7 +46,7 @@ module _ {t : Schema} (A : Sound t) (i : Instance) (links values : List ℕ) whe
   count-at : (c : ℕ) → c < t .graph .nodes → count I c ≡ getD (i .counts) c 0
   count-at c l = tabulate-getD (t .graph .nodes) (λ k. getD (i .counts) k 0) 0 c l
 
-  column-length : (n : ℕ) (rows : ℕ → ℕ) (l : List ℕ) (k : ℕ) → k < n → length (getD (Rattle.instance.specs.Decoded.columnsOf n rows l) k []) ≡ rows k
+  column-length : (n : ℕ) (rows : ℕ → ℕ) (l : List ℕ) (k : ℕ) → k < n → length (getD (columnsOf n rows l) k []) ≡ rows k
   column-length n rows l k h =
       ap length (tabulate-getD n (λ j. columnOf l (512 * j) (rows j)) [] k h) ∙ tabulate-length (rows k) (λ r. getD l (512 * k + r) 0)
 
@@ -109,5 +110,5 @@ module _ {x : Sides} {links values links′ values′ : List ℕ} (M : Migratabl
   pub pushed-rows : sumOf (sigma S T F run .counts) ≡ sumOf (run .counts)
   pushed-rows = sigma-total mapping-valid mapping-even run-valid
 
-  pub pushed-fits : ensureFits (sigma S T F run) ≡ accepted (sigma S T F run)
-  pushed-fits = sigma-never-overfull mapping-valid mapping-even run-valid
+  pub pushed-links-in : linksInRange T (sigma S T F run) ≡ true
+  pushed-links-in = links-pass kinds T (sigma S T F run) (pushed-valid .shaped) (pushed-valid .is)

@@ -60,11 +60,11 @@ abbrev pub turnableOf : Sides → List ℕ → Turnable
 turnableOf x list = record { m = migrationOf (x .opened); counts = firstOf (x .opened .source .graph .nodes) (x .run .counts); list = partnersOf (x .opened .source) (x .run) list }
 
 -- what a turning relies on
-pub record Pushable (x : Sides) : Type 0 where
+pub record ReadyToTurn (x : Sides) : Type 0 where
   pub ready : Ready (x .opened)
   pub limits : Limits (x .opened .source) (x .run)
   pub rows : sumOf (pushedOf (turnableOf x []) .counts) ≡ sumOf (turnableOf x [] .counts)
 
 pub record Matches (x : Sides) (list : List ℕ) (X : Outcome Turnable) : Type 0 where
   pub says : outcomeOf (x .refusal) (turnableOf x list) ≡ X
-  pub pushable : (x .refusal .number ≡ 0 → Pushable x)
+  pub ready : (x .refusal .number ≡ 0 → ReadyToTurn x)

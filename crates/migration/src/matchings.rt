@@ -17,7 +17,7 @@ ghost use Rattle.instance.specs.Decoded.{tablesOf, Room};
 ghost use Rattle.matching.specs.Compared.{partnersOf, Comparable};
 ghost use Rattle.migration.specs.Answers.{outcomeOf};
 ghost use Rattle.migration.specs.Sides.{inputsOf, Migratable};
-ghost use Rattle.migration.specs.Matched.{judgedMatching, rawList};
+ghost use Rattle.migration.specs.Matched.{judgedMatching, pushedList, rawList};
 ghost use Rattle.migration.specs.Turnable.{matchedRaw, Matches};
 
 // Reads the partners of A's rows in B: 0, or the number with which the sheet is sent back.
@@ -46,6 +46,64 @@ fn judge_matching(
         return 17;
     }
     fault
+}
+
+// The pushed side of accepted inputs: 15, or the matching sheet's refusal; where there is none, the partners of Sigma's rows stand in list.
+fn judge_pushed(
+    x: Sides,
+    run_links: &[u32],
+    run_values: &[u32],
+    book_links: &[u32],
+    book_values: &[u32],
+    sheet: &[u8],
+    list: &mut [u32],
+) -> Refusal
+    requires { ⌜ Migratable x (now «run_links») (now «run_values») (now «book_links») (now «book_values») × Room (now «run_links») (now «run_values») × Room (now «book_links») (now «book_values») × (512 ≤ length (now list)) ⌝ }
+    ensures { λ r. ⌜ outcomeOf r (partnersOf (x .opened .source) (x .run) (now (list .exit))) ≡ pushedList (inputsOf x (now («run_links» .entry)) (now («run_values» .entry)) (now («book_links» .entry)) (now («book_values» .entry))) (now (sheet .entry)) ⌝ }
+{
+    let mut links = [0u32; Instance::LINKS];
+    let mut values = [0u32; Instance::VALUES];
+    let opened = x.opened;
+    let source = opened.source;
+    let target = opened.target;
+    let mapping = opened.mapping;
+    let book = x.book;
+    let size = overfull(source, delta::delta_counts(source, target, mapping, book));
+    if size == 0 {
+        let source_paths = opened.source_paths;
+        let target_paths = opened.target_paths;
+        let run = x.run;
+        let pushed = sigma::sigma(
+            source,
+            target,
+            source_paths,
+            target_paths,
+            mapping,
+            run,
+            run_links,
+            run_values,
+            &mut links,
+            &mut values,
+        );
+        return Refusal {
+            number: judge_matching(
+                target,
+                pushed,
+                &links,
+                &values,
+                book,
+                book_links,
+                book_values,
+                sheet,
+                &mut *list,
+            ),
+            place: 6,
+        };
+    }
+    Refusal {
+        number: size,
+        place: 0,
+    }
 }
 
 // The raw side of accepted inputs: 15, or the matching sheet's refusal; where there is none, the partners of the run's rows stand in list.
