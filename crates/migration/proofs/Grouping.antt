@@ -19,9 +19,10 @@ use Rattle.meaning.specs.Calls.{Outcome, refused, accepted, _>>=_, at, ensure, 
 use Rattle.matching.specs.Compared.{partnersOf}
 use Rattle.migration.specs.declared.Refusal.{Refusal}
 use Rattle.migration.specs.declared.sides.Sides.{Sides}
+use Rattle.migration.specs.declared.matchings.Side.the-variants as side
 use Rattle.migration.specs.Answers.{outcomeOf}
 use Rattle.migration.specs.Sides.{Inputs, inputs, sized, sidesOf, inputsOf, SidesSay}
-use Rattle.migration.specs.Turnable.{Turnable, turnable, matchedPushed, matchedRaw, rawSheet, pushedSheet, turnableOf, Matches}
+use Rattle.migration.specs.Turnable.{Turnable, turnable, matchedSide, rawSheet, pushedSheet, turnableOf, Matches}
 use Rattle.migration.proofs.Refusing.{no-refusal, yields, stops, bind-assoc}
 use Rattle.migration.proofs.Validity.{pushed-rows}
 
@@ -86,21 +87,21 @@ module _ {B : Type 0} (s t f i j k : List ℕ) (judge : meaning.Sides → List �
       ∙ ap (λ (o : Outcome meaning.Sides). o >>= made) (grouped s t f i j)
 
 module _ (s t f i j k : List ℕ) where
-  pub raw-checked : (matchedRaw s t f i j k >>= λ _. accepted tt) ≡ checkRaw s t f i j k
+  pub raw-checked : (matchedSide side.Raw s t f i j k >>= λ _. accepted tt) ≡ checkRaw s t f i j k
   raw-checked = regrouped s t f i j k judgeRaw (λ _. accepted tt) (λ _ _. accepted tt) (λ y l. refl)
 
-  pub pushed-checked : (matchedPushed s t f i j k >>= λ _. accepted tt) ≡ checkPushed s t f i j k
+  pub pushed-checked : (matchedSide side.Pushed s t f i j k >>= λ _. accepted tt) ≡ checkPushed s t f i j k
   pushed-checked = regrouped s t f i j k judgePushed (λ _. accepted tt) (λ _ _. accepted tt) (λ y l. refl)
 
   -- a turning looks at counts alone
-  pub raw-turned : (matchedRaw s t f i j k >>= λ z. accepted (pushedSheet z)) ≡ rawToPushed s t f i j k
+  pub raw-turned : (matchedSide side.Raw s t f i j k >>= λ z. accepted (pushedSheet z)) ≡ rawToPushed s t f i j k
   unfolding share partners
   raw-turned =
       regrouped s t f i j k judgeRaw (λ z. accepted (pushedSheet z))
       (λ x l. accepted (matchingSheet (toPushed (mappingOf (x .m .S) (x .m .T) (x .m .F)) (instanceOf (x .run)) (instanceOf (x .pushed)) l)))
       (λ y l. refl)
 
-  pub pushed-turned : (matchedPushed s t f i j k >>= λ z. accepted (rawSheet z)) ≡ pushedToRaw s t f i j k
+  pub pushed-turned : (matchedSide side.Pushed s t f i j k >>= λ z. accepted (rawSheet z)) ≡ pushedToRaw s t f i j k
   unfolding share partners
   pushed-turned =
       regrouped s t f i j k judgePushed (λ z. accepted (rawSheet z))

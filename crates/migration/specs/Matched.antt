@@ -9,6 +9,8 @@ use Rattle.meaning.specs.Calls.{Outcome, _>>=_, judgePushed, judgeRaw}
 use Rattle.schema.specs.declared.Schema.{Schema}
 use Rattle.instance.specs.declared.Instance.{Instance}
 use Rattle.matching.specs.Compared.{partnersOf}
+use Rattle.migration.specs.declared.matchings.Side.{Side}
+use Rattle.migration.specs.declared.matchings.Side.the-variants as side
 use Rattle.migration.specs.Sides.{Inputs, sized}
 
 -- the number with which the sheet is sent back, or the partners of A's rows
@@ -26,3 +28,7 @@ abbrev pub rawList : Inputs → List ℕ → Outcome (List ℕ)
 rawList y k = do
   x ← sized y
   judgeRaw x k
+
+abbrev pub sideList : Side → Inputs → List ℕ → Outcome (List ℕ)
+sideList side.Pushed = pushedList
+sideList side.Raw = rawList

@@ -12,10 +12,11 @@ use Rattle.meaning.specs.Calls.{Outcome, accepted, _>>=_, Migration}
 use Rattle.instance.specs.Decoded.{firstOf, Limits}
 use Rattle.matching.specs.Compared.{partnersOf}
 use Rattle.migration.specs.declared.sides.Sides.{Sides}
+use Rattle.migration.specs.declared.matchings.Side.{Side}
 use Rattle.migration.specs.Answers.{outcomeOf}
 use Rattle.migration.specs.Opened.{migrationOf, Ready}
 use Rattle.migration.specs.Sides.{Inputs, inputs}
-use Rattle.migration.specs.Matched.{pushedList, rawList}
+use Rattle.migration.specs.Matched.{sideList}
 
 -- the mapping, the counts of the run, and a list of partners: a turning looks at nothing else
 pub record Turnable : Type 0 where
@@ -26,17 +27,11 @@ pub record Turnable : Type 0 where
 abbrev pub turnable : Inputs → List ℕ → Turnable
 turnable y l = record { m = y .m; counts = y .run .counts; list = l }
 
--- the tests of each side
-abbrev pub matchedPushed : List ℕ → List ℕ → List ℕ → List ℕ → List ℕ → List ℕ → Outcome Turnable
-matchedPushed s t f i j k = do
+-- the tests of a side
+abbrev pub matchedSide : Side → List ℕ → List ℕ → List ℕ → List ℕ → List ℕ → List ℕ → Outcome Turnable
+matchedSide side s t f i j k = do
   y ← inputs s t f i j
-  l ← pushedList y k
-  accepted (turnable y l)
-
-abbrev pub matchedRaw : List ℕ → List ℕ → List ℕ → List ℕ → List ℕ → List ℕ → Outcome Turnable
-matchedRaw s t f i j k = do
-  y ← inputs s t f i j
-  l ← rawList y k
+  l ← sideList side y k
   accepted (turnable y l)
 
 -- the run and its Sigma, their counts alone

@@ -10,6 +10,7 @@ mod sides;
 
 pub use checks::check_instance;
 pub use checks::check_mapping;
+pub use checks::check_pushed;
 pub use checks::check_raw;
 pub use checks::check_schema;
 pub use checks::same_path;

@@ -17,8 +17,8 @@ ghost use Rattle.instance.specs.Decoded.{tablesOf, Room};
 ghost use Rattle.matching.specs.Compared.{partnersOf, Comparable};
 ghost use Rattle.migration.specs.Answers.{outcomeOf};
 ghost use Rattle.migration.specs.Sides.{inputsOf, Migratable};
-ghost use Rattle.migration.specs.Matched.{judgedMatching, pushedList, rawList};
-ghost use Rattle.migration.specs.Turnable.{matchedRaw, Matches};
+ghost use Rattle.migration.specs.Matched.{judgedMatching, pushedList, rawList, sideList};
+ghost use Rattle.migration.specs.Turnable.{matchedSide, Matches};
 
 // Reads the partners of A's rows in B: 0, or the number with which the sheet is sent back.
 fn judge_matching(
@@ -160,8 +160,50 @@ fn judge_raw(
     }
 }
 
-// The tests of the raw side, up to the matching sheet k.
-pub(crate) fn match_raw(
+// From Sigma of the run to the book, or from the run to Delta of the book.
+pub enum Side {
+    Pushed,
+    Raw,
+}
+
+fn judge_side(
+    side: Side,
+    x: Sides,
+    run_links: &[u32],
+    run_values: &[u32],
+    book_links: &[u32],
+    book_values: &[u32],
+    sheet: &[u8],
+    list: &mut [u32],
+) -> Refusal
+    requires { ⌜ Migratable x (now «run_links») (now «run_values») (now «book_links») (now «book_values») × Room (now «run_links») (now «run_values») × Room (now «book_links») (now «book_values») × (512 ≤ length (now list)) ⌝ }
+    ensures { λ r. ⌜ outcomeOf r (partnersOf (x .opened .source) (x .run) (now (list .exit))) ≡ sideList side (inputsOf x (now («run_links» .entry)) (now («run_values» .entry)) (now («book_links» .entry)) (now («book_values» .entry))) (now (sheet .entry)) ⌝ }
+{
+    match side {
+        Side::Pushed => judge_pushed(
+            x,
+            run_links,
+            run_values,
+            book_links,
+            book_values,
+            sheet,
+            &mut *list,
+        ),
+        Side::Raw => judge_raw(
+            x,
+            run_links,
+            run_values,
+            book_links,
+            book_values,
+            sheet,
+            &mut *list,
+        ),
+    }
+}
+
+// The tests of a side, up to the matching sheet k; where they are passed, the partners stand in list.
+pub(crate) fn match_side(
+    side: Side,
     s: &[u8],
     t: &[u8],
     f: &[u8],
@@ -171,7 +213,7 @@ pub(crate) fn match_raw(
     list: &mut [u32],
 ) -> Sides
     requires { ⌜ 512 ≤ length (now list) ⌝ }
-    ensures { λ r. ⌜ Matches r (now (list .exit)) (matchedRaw (now (s .entry)) (now (t .entry)) (now (f .entry)) (now (i .entry)) (now (j .entry)) (now (k .entry))) ⌝ }
+    ensures { λ r. ⌜ Matches r (now (list .exit)) (matchedSide side (now (s .entry)) (now (t .entry)) (now (f .entry)) (now (i .entry)) (now (j .entry)) (now (k .entry))) ⌝ }
 {
     let mut run_links = [0u32; Instance::LINKS];
     let mut run_values = [0u32; Instance::VALUES];
@@ -194,7 +236,8 @@ pub(crate) fn match_raw(
         let run = x.run;
         let book = x.book;
         return Sides {
-            refusal: judge_raw(
+            refusal: judge_side(
+                side,
                 x,
                 &run_links,
                 &run_values,

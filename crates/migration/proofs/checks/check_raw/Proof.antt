@@ -6,11 +6,11 @@ use borrow.Author.Needs.{needs}
 use Rattle.migration.proofs.checks.check_raw.Statement.{statement}
 use Rattle.migration.proofs.checks.check_raw.Tie as tie
 
-slice-aggregate-match-raw : tie.Need-slice-aggregate-match-raw
-slice-aggregate-match-raw c = search needs
+slice-aggregate-match-side : tie.Need-slice-aggregate-match-side
+slice-aggregate-match-side c = search needs
 
-match-raw-requires : tie.Need-match-raw-requires
-match-raw-requires c κs = search needs
+match-side-requires : tie.Need-match-side-requires
+match-side-requires c κs = search needs
 
 verdict-requires : tie.Need-verdict-requires
 verdict-requires c κs = search needs
@@ -18,9 +18,9 @@ verdict-requires c κs = search needs
 returns : tie.Need-returns
 returns c =
     let a = c .before .before .before .before .before .before .before .before .before .before .before .args in
-    let m = c .before .before .before .match-raw in
-    c .verdict .ensures ∙ yields (m .result .refusal) (turnableOf (m .result) (m .last .1 .1 .1 .1 .1 .1 .0)) (m .ensures .says) (λ _. tt) ∙ raw-checked (a .s .now) (a .t .now) (a .f .now) (a .run .now) (a .book .now) (a .list .now)
+    let m = c .before .before .before .match-side in
+    c .verdict .ensures ∙ yields (m .result .refusal) (turnableOf (m .result) (m .last .1 .1 .1 .1 .1 .1 .1 .0)) (m .ensures .says) (λ _. tt) ∙ raw-checked (a .s .now) (a .t .now) (a .f .now) (a .run .now) (a .book .now) (a .list .now)
 
 pub check-raw-spec : {M : Type 1} → statement M
 check-raw-spec =
-    tie.close (tie.spec slice-aggregate-match-raw match-raw-requires verdict-requires returns)
+    tie.close (tie.spec slice-aggregate-match-side match-side-requires verdict-requires returns)
