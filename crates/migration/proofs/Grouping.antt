@@ -22,7 +22,7 @@ use Rattle.migration.specs.declared.sides.Sides.{Sides}
 use Rattle.migration.specs.declared.matchings.Side.the-variants as side
 use Rattle.migration.specs.Answers.{outcomeOf}
 use Rattle.migration.specs.Sides.{Inputs, inputs, sized, sidesOf, inputsOf, SidesSay}
-use Rattle.migration.specs.Turnable.{Turnable, turnable, matchedSide, rawSheet, pushedSheet, turnableOf, Matches}
+use Rattle.migration.specs.Turnable.{Turnable, turnable, matchedSide, turnedList, turnableOf, Matches}
 use Rattle.migration.proofs.Refusing.{no-refusal, yields, stops, bind-assoc}
 use Rattle.migration.proofs.Validity.{pushed-rows}
 
@@ -94,17 +94,17 @@ module _ (s t f i j k : List ℕ) where
   pushed-checked = regrouped s t f i j k judgePushed (λ _. accepted tt) (λ _ _. accepted tt) (λ y l. refl)
 
   -- a turning looks at counts alone
-  pub raw-turned : (matchedSide side.Raw s t f i j k >>= λ z. accepted (pushedSheet z)) ≡ rawToPushed s t f i j k
+  pub raw-turned : (matchedSide side.Raw s t f i j k >>= λ z. accepted (matchingSheet (turnedList side.Raw z))) ≡ rawToPushed s t f i j k
   unfolding share partners
   raw-turned =
-      regrouped s t f i j k judgeRaw (λ z. accepted (pushedSheet z))
+      regrouped s t f i j k judgeRaw (λ z. accepted (matchingSheet (turnedList side.Raw z)))
       (λ x l. accepted (matchingSheet (toPushed (mappingOf (x .m .S) (x .m .T) (x .m .F)) (instanceOf (x .run)) (instanceOf (x .pushed)) l)))
       (λ y l. refl)
 
-  pub pushed-turned : (matchedSide side.Pushed s t f i j k >>= λ z. accepted (rawSheet z)) ≡ pushedToRaw s t f i j k
+  pub pushed-turned : (matchedSide side.Pushed s t f i j k >>= λ z. accepted (matchingSheet (turnedList side.Pushed z))) ≡ pushedToRaw s t f i j k
   unfolding share partners
   pushed-turned =
-      regrouped s t f i j k judgePushed (λ z. accepted (rawSheet z))
+      regrouped s t f i j k judgePushed (λ z. accepted (matchingSheet (turnedList side.Pushed z)))
       (λ x l. accepted (matchingSheet (toRaw (mappingOf (x .m .S) (x .m .T) (x .m .F)) (instanceOf (x .run)) (instanceOf (x .pushed)) l)))
       (λ y l. refl)
 

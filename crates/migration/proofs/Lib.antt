@@ -7,3 +7,4 @@ pub mod Partners
 pub mod Validity
 pub mod Judging
 pub mod Grouping
+pub mod Turning

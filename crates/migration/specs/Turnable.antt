@@ -5,7 +5,6 @@ use mathlib.Core.List.{List, []}
 use Rattle.theory.specs.Transposition.{toRaw, toPushed}
 use Rattle.meaning.specs.Lists.{sumOf}
 use Rattle.meaning.specs.Formats as formats
-use Rattle.meaning.specs.Formats.{matchingSheet, maxRows}
 use Rattle.meaning.specs.Views.{mappingOf, instanceOf}
 use Rattle.meaning.specs.Sigma.{sigma}
 use Rattle.meaning.specs.Calls.{Outcome, accepted, _>>=_, Migration}
@@ -13,6 +12,7 @@ use Rattle.instance.specs.Decoded.{firstOf, Limits}
 use Rattle.matching.specs.Compared.{partnersOf}
 use Rattle.migration.specs.declared.sides.Sides.{Sides}
 use Rattle.migration.specs.declared.matchings.Side.{Side}
+use Rattle.migration.specs.declared.matchings.Side.the-variants as side
 use Rattle.migration.specs.Answers.{outcomeOf}
 use Rattle.migration.specs.Opened.{migrationOf, Ready}
 use Rattle.migration.specs.Sides.{Inputs, inputs}
@@ -41,12 +41,10 @@ runOf z = record { counts = z .counts; links = []; values = [] }
 abbrev pub pushedOf : Turnable → formats.Instance
 pushedOf z = sigma (z .m .S) (z .m .T) (z .m .F) (runOf z)
 
--- the sheets of the turned lists
-abbrev pub rawSheet : Turnable → List ℕ
-rawSheet z = matchingSheet (toRaw (mappingOf (z .m .S) (z .m .T) (z .m .F)) (instanceOf (runOf z)) (instanceOf (pushedOf z)) (z .list))
-
-abbrev pub pushedSheet : Turnable → List ℕ
-pushedSheet z = matchingSheet (toPushed (mappingOf (z .m .S) (z .m .T) (z .m .F)) (instanceOf (runOf z)) (instanceOf (pushedOf z)) (z .list))
+-- a list turned to the other side
+abbrev pub turnedList : Side → Turnable → List ℕ
+turnedList side.Pushed z = toRaw (mappingOf (z .m .S) (z .m .T) (z .m .F)) (instanceOf (runOf z)) (instanceOf (pushedOf z)) (z .list)
+turnedList side.Raw z = toPushed (mappingOf (z .m .S) (z .m .T) (z .m .F)) (instanceOf (runOf z)) (instanceOf (pushedOf z)) (z .list)
 
 -- ---- in working arrays
 

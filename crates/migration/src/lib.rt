@@ -7,6 +7,7 @@ mod migrate;
 mod open;
 mod results;
 mod sides;
+mod turnings;
 
 pub use checks::check_instance;
 pub use checks::check_mapping;
