@@ -16,6 +16,8 @@ pub use checks::check_raw;
 pub use checks::check_schema;
 pub use checks::same_path;
 pub use migrate::delta;
+pub use turnings::pushed_to_raw;
+pub use turnings::raw_to_pushed;
 ghost use mathlib.Core.Path.{_≡_};
 ghost use Rattle.migration.specs.Answers.{orNext};
 

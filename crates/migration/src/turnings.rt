@@ -68,3 +68,39 @@ fn write_turned(side: Side, x: Sides, list: &[u32], tray: &mut [u8]) -> Written
     }
     Written::Refused(refusal)
 }
+
+// From the pushed side to the raw side: writes the matching from the instance run of s to Delta of the instance book of t that corresponds to list.
+// Refuses as check_pushed does, and last with 16 at place 0.
+pub fn pushed_to_raw(
+    s: &[u8],
+    t: &[u8],
+    f: &[u8],
+    run: &[u8],
+    book: &[u8],
+    list: &[u8],
+    tray: &mut [u8],
+) -> Written
+    ensures { λ r. ⌜ lentOf r (now (tray .exit)) ≡ inTray (now (tray .entry)) (pushedToRaw (now (s .entry)) (now (t .entry)) (now (f .entry)) (now (run .entry)) (now (book .entry)) (now (list .entry))) ⌝ }
+{
+    let mut partners = [0u32; Instance::ROWS];
+    let matched = match_side(Side::Pushed, s, t, f, run, book, list, &mut partners);
+    write_turned(Side::Pushed, matched, &partners, &mut *tray)
+}
+
+// From the raw side to the pushed side: writes the matching from Sigma of the instance run of s to the instance book of t that corresponds to list.
+// Refuses as check_raw does, and last with 16 at place 0.
+pub fn raw_to_pushed(
+    s: &[u8],
+    t: &[u8],
+    f: &[u8],
+    run: &[u8],
+    book: &[u8],
+    list: &[u8],
+    tray: &mut [u8],
+) -> Written
+    ensures { λ r. ⌜ lentOf r (now (tray .exit)) ≡ inTray (now (tray .entry)) (rawToPushed (now (s .entry)) (now (t .entry)) (now (f .entry)) (now (run .entry)) (now (book .entry)) (now (list .entry))) ⌝ }
+{
+    let mut partners = [0u32; Instance::ROWS];
+    let matched = match_side(Side::Raw, s, t, f, run, book, list, &mut partners);
+    write_turned(Side::Raw, matched, &partners, &mut *tray)
+}
