@@ -8,3 +8,4 @@ pub mod Validity
 pub mod Judging
 pub mod Grouping
 pub mod Turning
+pub mod Demand3

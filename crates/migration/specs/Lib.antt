@@ -4,3 +4,4 @@ pub mod Migrated
 pub mod Sides
 pub mod Matched
 pub mod Turnable
+pub mod Demand3
