@@ -53,14 +53,14 @@ fn write_partners(list: &[u32], n: usize, tray: &mut [u8]) -> Written
 }
 
 // Writes the sheet of a turned list, where the tests of its side were passed.
-fn write_turned(side: Side, x: Sides, list: &[u32], tray: &mut [u8]) -> Written
-    requires { ⌜ (x .refusal .number ≡ 0 → ReadyToTurn x) × (512 ≤ length (now list)) ⌝ }
-    ensures { λ r. ⌜ lentOf r (now (tray .exit)) ≡ inTray (now (tray .entry)) (outcomeOf (x .refusal) (matchingSheet (turnedList side (turnableOf x (now (list .entry)))))) ⌝ }
+fn write_turned(side: Side, x: Sides, list: [u32; Instance::ROWS], tray: &mut [u8]) -> Written
+    requires { ⌜ (x .refusal .number ≡ 0 → ReadyToTurn x) × (length list ≡ 512) ⌝ }
+    ensures { λ r. ⌜ lentOf r (now (tray .exit)) ≡ inTray (now (tray .entry)) (outcomeOf (x .refusal) (matchingSheet (turnedList side (turnableOf x list)))) ⌝ }
 {
     let refusal = x.refusal;
     if refusal.number == 0 {
         let mut out = [0u32; Instance::ROWS];
-        turn(side, x, list, &mut out);
+        turn(side, x, &list, &mut out);
         let run = x.run;
         let counts = run.counts;
         let nodes = x.opened.source.graph.nodes;
@@ -84,7 +84,7 @@ pub fn pushed_to_raw(
 {
     let mut partners = [0u32; Instance::ROWS];
     let matched = match_side(Side::Pushed, s, t, f, run, book, list, &mut partners);
-    write_turned(Side::Pushed, matched, &partners, &mut *tray)
+    write_turned(Side::Pushed, matched, partners, &mut *tray)
 }
 
 // From the raw side to the pushed side: writes the matching from Sigma of the instance run of s to the instance book of t that corresponds to list.
@@ -102,5 +102,5 @@ pub fn raw_to_pushed(
 {
     let mut partners = [0u32; Instance::ROWS];
     let matched = match_side(Side::Raw, s, t, f, run, book, list, &mut partners);
-    write_turned(Side::Raw, matched, &partners, &mut *tray)
+    write_turned(Side::Raw, matched, partners, &mut *tray)
 }

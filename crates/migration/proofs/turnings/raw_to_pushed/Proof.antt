@@ -15,9 +15,6 @@ slice-aggregate-match-side c = search needs
 match-side-requires : tie.Need-match-side-requires
 match-side-requires c κs = search needs
 
-slice-aggregate-write-turned : tie.Need-slice-aggregate-write-turned
-slice-aggregate-write-turned c = search needs
-
 write-turned-requires : tie.Need-write-turned-requires
 write-turned-requires c κs = search needs
 
@@ -26,8 +23,8 @@ same-length c = search needs
 
 returns : tie.Need-returns
 returns c =
-    let a = c .before .before .before .before .before .before .before .before .before .before .before .before .before .before .before .args in
-    let m = c .before .before .before .before .before .before .match-side in
+    let a = c .before .before .before .before .before .before .before .before .before .before .before .before .before .before .args in
+    let m = c .before .before .before .before .before .match-side in
     c .before .before .write-turned .ensures ∙ ap (inTray (a .tray .now)) (yields (m .result .refusal) (turnableOf (m .result) (m .last .1 .1 .1 .1 .1 .1 .1 .0)) (m .ensures .says) (λ z. matchingSheet (turnedList side.Raw z)) ∙ raw-turned (a .s .now) (a .t .now) (a .f .now) (a .run .now) (a .book .now) (a .list .now))
 
 pub raw-to-pushed-spec : {M : Type 1} → statement M
@@ -36,7 +33,6 @@ raw-to-pushed-spec =
     (tie.spec
     slice-aggregate-match-side
     match-side-requires
-    slice-aggregate-write-turned
     write-turned-requires
     same-length
     returns)
