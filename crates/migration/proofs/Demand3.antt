@@ -2,7 +2,7 @@
 use Prim.Native.Nat.{ℕ}
 use mathlib.Core.Path.{_≡_, sym, subst, fun-ext}
 use mathlib.Core.List.{List}
-use Rattle.meaning.specs.Calls.{Outcome, Lent, checkPushed, checkRaw}
+use Rattle.meaning.specs.Calls.{checkPushed, checkRaw}
 use Rattle.meaning.specs.Views.{schemaOf, instanceOf}
 use Rattle.agreement.specs.Demand3 as agreed
 use Rattle.agreement.specs.Demand3.{Refuses, RefusesTray, Provided, pushedSide, rawSide, Turning, Checks, Takes, Turns, ComesFromOne, TurnsBack, MeetsSame}

@@ -15,7 +15,7 @@ use Rattle.meaning.specs.Evenness.{even}
 use Rattle.meaning.specs.Delta.{delta}
 use Rattle.meaning.specs.Sigma.{sigma}
 use Rattle.meaning.specs.Calls as meaning
-use Rattle.meaning.specs.Calls.{Outcome, refused, accepted, _>>=_, at, ensure, ensureFits, Migration, migration, sides, judgeRaw, judgePushed, checkRaw, checkPushed, pushedToRaw, rawToPushed}
+use Rattle.meaning.specs.Calls.{Outcome, accepted, _>>=_, at, ensure, migration, sides, judgeRaw, judgePushed, checkRaw, checkPushed, pushedToRaw, rawToPushed}
 use Rattle.matching.specs.Compared.{partnersOf}
 use Rattle.migration.specs.declared.Refusal.{Refusal}
 use Rattle.migration.specs.declared.sides.Sides.{Sides}

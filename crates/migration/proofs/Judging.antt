@@ -15,9 +15,8 @@ use Rattle.meaning.specs.Matching.{judgeMatching}
 use Rattle.meaning.specs.Sigma.{sigma}
 use Rattle.meaning.specs.Calls as meaning
 use Rattle.meaning.specs.Calls.{Outcome, refused, accepted, _>>=_, judgeRaw, judgePushed}
-use Rattle.schema.specs.Decoded.{schemaOf}
 use Rattle.instance.specs.declared.Instance.{Instance}
-use Rattle.instance.specs.Decoded.{firstOf, tablesOf, Limits, Room}
+use Rattle.instance.specs.Decoded.{firstOf, tablesOf, Room}
 use Rattle.delta.specs.Pulled.{deltaOf, Pulled}
 use Rattle.sigma.specs.Pushed.{Pushed}
 use Rattle.matching.specs.Compared.{partnersOf, Comparable}

@@ -13,7 +13,7 @@ use Rattle.meaning.specs.Formats.{maxRows}
 use Rattle.meaning.specs.Judge.{judgeInstance}
 use Rattle.meaning.specs.Delta.{delta}
 use Rattle.meaning.specs.Calls as meaning
-use Rattle.meaning.specs.Calls.{Outcome, accepted, _>>=_, at, ensureFits, migration, deltaTables}
+use Rattle.meaning.specs.Calls.{Outcome, accepted, at, ensureFits, migration, deltaTables, _>>=_}
 use Rattle.schema.specs.declared.Schema.{Schema}
 use Rattle.schema.specs.Decoded.{schemaOf}
 use Rattle.schema.specs.Judged.{Sound}

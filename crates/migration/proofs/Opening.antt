@@ -6,7 +6,7 @@ use mathlib.Core.List.{List}
 use native.Mathlib.Omega.{arith}
 use Rattle.meaning.specs.Judge.{judgeInstance}
 use Rattle.meaning.specs.Evenness.{even}
-use Rattle.meaning.specs.Calls.{accepted, _>>=_, at, ensure, migration}
+use Rattle.meaning.specs.Calls.{accepted, at, ensure, migration, _>>=_}
 use Rattle.schema.specs.Decoded.{schemaOf}
 use Rattle.mapping.specs.Decoded.{mappingOf}
 use Rattle.instance.specs.declared.Instance.{Instance}
@@ -16,6 +16,7 @@ use Rattle.migration.specs.declared.Refusal.{Refusal}
 use Rattle.migration.specs.declared.open.Opened.{Opened}
 use Rattle.migration.specs.Answers.{orNext, outcomeOf}
 use Rattle.migration.specs.Opened.{migrationOf, Ready, Opens}
+use Rattle.migration.specs.Runs.{RunInput, runInput, RunSays}
 use Rattle.migration.specs.Sides.{Inputs, inputs, SidesSay}
 use Rattle.migration.proofs.Refusing.{refusal, judged-at, then, yields, tested, or-none, or-some, or-assoc, none-first, none-next}
 
@@ -24,6 +25,25 @@ pub passed : (b : Bool) (n : ℕ) → (n ≡ 0 → ⊥) → cond b 0 n ≡ 0 →
 passed true n some e = refl
 passed false n some e = absurd (some e)
 
+-- ---- a mapping and a run
+module _ (o : Opened) (s t f : List ℕ) (O : Opens o (migration s t f)) (run : Instance) (links values i : List ℕ) (I : Tested (o .source) run links values (judgeInstance (schemaOf (o .source)) i)) where
+  abbrev run-input : RunInput
+  run-input = record { m = migrationOf o; run = tablesOf (o .source) run links values }
+
+  pub run-open : {r : Refusal} → r ≡ orNext (o .refusal) (refusal (run .fault) 4) → RunSays (record { refusal = r; opened = o; run = run }) links values (runInput s t f i)
+  run-open {r} e = record {
+    says = ap (λ (r : Refusal). outcomeOf r run-input) e ∙
+        then (o .refusal) (migrationOf o) (O .says) (refusal (run .fault) 4) run-input (λ m. do
+          I ← at 4 (judgeInstance (m .S) i)
+          accepted (record { m = m; run = I }))
+        (yields (refusal (run .fault) 4) (run-input .run) (judged-at (run .fault) 4 (run-input .run) (I .says)) (λ I. record { m = migrationOf o; run = I }));
+    schemas = O .schemas;
+    limits = I .limits;
+    ready = λ z. O .ready (none-first (o .refusal) (refusal (run .fault) 4) (ap (λ (r : Refusal). r .number) (sym e) ∙ z));
+    accepted = λ z. I .accepted (none-next (o .refusal) (refusal (run .fault) 4) (ap (λ (r : Refusal). r .number) (sym e) ∙ z));
+  }
+
+-- ---- a mapping, a run and a book
 module _ (o : Opened) (s t f : List ℕ) (O : Opens o (migration s t f)) (run book : Instance) (links values links′ values′ i j : List ℕ)
     (I : Tested (o .source) run links values (judgeInstance (schemaOf (o .source)) i)) (J : Tested (o .target) book links′ values′ (judgeInstance (schemaOf (o .target)) j)) where
   abbrev is-even : Bool

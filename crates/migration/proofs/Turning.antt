@@ -1,5 +1,5 @@
 -- The turnings over working arrays look at the counts of Sigma alone, which need no other table of it.
-use Prim.Native.Nat.{ℕ, _≤_, _<_}
+use Prim.Native.Nat.{ℕ, _≤_}
 use mathlib.Core.Path.{_≡_, sym, ap, subst, _∙_}
 use mathlib.Core.List.{List, []}
 use lib.ListN.{getD}
@@ -11,8 +11,6 @@ use Rattle.theory.proofs.Numbering.{tabulate-getD}
 use Rattle.meaning.specs.Lists.{sumOf}
 use Rattle.meaning.specs.Formats as formats
 use Rattle.meaning.specs.Views.{instanceOf}
-use Rattle.schema.specs.Decoded.{schemaOf}
-use Rattle.mapping.specs.Judged.{NodesIn}
 use Rattle.mapping.proofs.Viewing.{node-at}
 use Rattle.mapping.proofs.JoinedRows.{joined-length}
 use Rattle.instance.specs.declared.Instance.{Instance}

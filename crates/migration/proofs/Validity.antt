@@ -1,5 +1,5 @@
 -- Accepted sheets in working arrays are valid, as `agreement` has it; so Sigma of the run has as many rows as the run, and 15 never arises for it.
-use Prim.Native.Nat.{ℕ, _*_, _+_, _<_, _≤_}
+use Prim.Native.Nat.{ℕ, _*_, _+_, _<_}
 use mathlib.Core.Path.{_≡_, sym, ap, _∙_}
 use mathlib.Core.Bool.{true}
 use mathlib.Core.List.{List, []}

@@ -1,5 +1,6 @@
 pub mod Answers
 pub mod Opened
+pub mod Runs
 pub mod Migrated
 pub mod Sides
 pub mod Matched

@@ -1,6 +1,5 @@
 -- A judged matching in a working array, and what the checkers and the turnings take of the sheets.
 use Prim.Native.Nat.{ℕ}
-use mathlib.Core.Path.{_≡_}
 use mathlib.Core.Bool.{cond}
 use mathlib.Core.List.{List}
 use lib.Dec.{eqb}

@@ -1,5 +1,5 @@
 -- What a checker leaves to a turning, and what each turning makes of it.
-use Prim.Native.Nat.{ℕ, _≤_}
+use Prim.Native.Nat.{ℕ}
 use mathlib.Core.Path.{_≡_}
 use mathlib.Core.List.{List, []}
 use Rattle.theory.specs.Transposition.{toRaw, toPushed}

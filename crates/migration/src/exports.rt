@@ -11,10 +11,11 @@ use crate::checks::check_raw;
 use crate::checks::check_schema;
 use crate::checks::same_path;
 use crate::migrate::delta;
+use crate::migrate::sigma;
 use crate::turnings::pushed_to_raw;
 use crate::turnings::raw_to_pushed;
 ghost use mathlib.Core.Path.{_≡_};
-ghost use Rattle.meaning.specs.Calls.{refused, checkSchema, checkMapping, checkInstance, samePath, deltaTables, sheetOf, checkPushed, checkRaw, pushedToRaw, rawToPushed, inTray};
+ghost use Rattle.meaning.specs.Calls.{refused, checkSchema, checkMapping, checkInstance, samePath, deltaTables, sigmaTables, sheetOf, checkPushed, checkRaw, pushedToRaw, rawToPushed, inTray};
 ghost use Rattle.migration.specs.Answers.{verdictOf, equalityOf, writtenOf, encoded, checked, answered, returned};
 
 fn refusal_number(refusal: Refusal) -> u64
@@ -84,6 +85,13 @@ pub extern "C" fn migration_delta(s: &[u8], t: &[u8], f: &[u8], j: &[u8], tray: 
     ensures { λ r. ⌜ (r, now (tray .exit)) ≡ returned (inTray (now (tray .entry)) (sheetOf (deltaTables (now (s .entry)) (now (t .entry)) (now (f .entry)) (now (j .entry))))) ⌝ }
 {
     written_number(delta(s, t, f, j, &mut *tray))
+}
+
+#[no_mangle]
+pub extern "C" fn migration_sigma(s: &[u8], t: &[u8], f: &[u8], i: &[u8], tray: &mut [u8]) -> u64
+    ensures { λ r. ⌜ (r, now (tray .exit)) ≡ returned (inTray (now (tray .entry)) (sheetOf (sigmaTables (now (s .entry)) (now (t .entry)) (now (f .entry)) (now (i .entry))))) ⌝ }
+{
+    written_number(sigma(s, t, f, i, &mut *tray))
 }
 
 #[no_mangle]

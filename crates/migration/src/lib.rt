@@ -6,6 +6,7 @@ mod matchings;
 mod migrate;
 mod open;
 mod results;
+mod runs;
 mod sides;
 mod turnings;
 
@@ -16,6 +17,7 @@ pub use checks::check_raw;
 pub use checks::check_schema;
 pub use checks::same_path;
 pub use migrate::delta;
+pub use migrate::sigma;
 pub use turnings::pushed_to_raw;
 pub use turnings::raw_to_pushed;
 ghost use mathlib.Core.Path.{_≡_};

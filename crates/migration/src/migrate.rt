@@ -2,16 +2,20 @@
 use crate::Refusal;
 use crate::Written;
 use crate::open::open;
+use crate::open::uneven;
 use crate::results::Migrated;
 use crate::results::overfull;
 use crate::results::write_migrated;
+use crate::runs::Run;
+use crate::runs::open_run;
 use instance::Instance;
 use instance::judge_instance;
 ghost use mathlib.Core.Path.{_≡_};
-ghost use Rattle.meaning.specs.Calls.{deltaTables, sheetOf, inTray};
+ghost use Rattle.meaning.specs.Calls.{deltaTables, sigmaTables, sheetOf, inTray};
 ghost use Rattle.instance.specs.Decoded.{Room};
 ghost use Rattle.migration.specs.Answers.{lentOf};
 ghost use Rattle.migration.specs.Migrated.{Migrates};
+ghost use Rattle.migration.specs.Runs.{runInputOf, pushedRun, PushableRun};
 
 // Delta's tables in working arrays.
 fn delta_tables(
@@ -70,5 +74,92 @@ pub fn delta(s: &[u8], t: &[u8], f: &[u8], j: &[u8], tray: &mut [u8]) -> Written
     let mut links = [0u32; Instance::LINKS];
     let mut values = [0u32; Instance::VALUES];
     let migrated = delta_tables(s, t, f, j, &mut links, &mut values);
+    write_migrated(migrated, &links, &values, &mut *tray)
+}
+
+// Sigma's tables of a run along an even mapping.
+fn push_run(
+    x: Run,
+    run_links: &[u32],
+    run_values: &[u32],
+    links: &mut [u32],
+    values: &mut [u32],
+) -> Migrated
+    requires { ⌜ PushableRun x (now «run_links») (now «run_values») × Room (now «run_links») (now «run_values») × Room (now links) (now values) ⌝ }
+    ensures { λ r. ⌜ Migrates r (now (links .exit)) (now (values .exit)) (pushedRun (runInputOf x (now («run_links» .entry)) (now («run_values» .entry)))) ⌝ }
+{
+    let opened = x.opened;
+    let target = opened.target;
+    let tables = sigma::sigma(
+        opened.source,
+        target,
+        opened.source_paths,
+        opened.target_paths,
+        opened.mapping,
+        x.run,
+        run_links,
+        run_values,
+        &mut *links,
+        &mut *values,
+    );
+    let size = Refusal {
+        number: overfull(target, tables),
+        place: 0,
+    };
+    Migrated {
+        refusal: size,
+        schema: target,
+        tables: tables,
+    }
+}
+
+// Sigma's tables in working arrays.
+fn sigma_tables(
+    s: &[u8],
+    t: &[u8],
+    f: &[u8],
+    i: &[u8],
+    links: &mut [u32],
+    values: &mut [u32],
+) -> Migrated
+    requires { ⌜ Room (now links) (now values) ⌝ }
+    ensures { λ r. ⌜ Migrates r (now (links .exit)) (now (values .exit)) (sigmaTables (now (s .entry)) (now (t .entry)) (now (f .entry)) (now (i .entry))) ⌝ }
+{
+    let mut run_links = [0u32; Instance::LINKS];
+    let mut run_values = [0u32; Instance::VALUES];
+    let x = open_run(s, t, f, i, &mut run_links, &mut run_values);
+    let opened = x.opened;
+    let target = opened.target;
+    let run = x.run;
+    let sheets = x.refusal;
+    if sheets.number == 0 {
+        let evenness = Refusal {
+            number: uneven(opened),
+            place: 0,
+        };
+        if evenness.number == 0 {
+            return push_run(x, &run_links, &run_values, &mut *links, &mut *values);
+        }
+        return Migrated {
+            refusal: evenness,
+            schema: target,
+            tables: run,
+        };
+    }
+    Migrated {
+        refusal: sheets,
+        schema: target,
+        tables: run,
+    }
+}
+
+// Sigma: writes the instance of t that the even mapping f from s to t makes of the instance i of s. Refuses with 1 to 6 at the places of s and t,
+// with 1, 2, 7 and 8 at that of f, with 1, 2, 3, 9, 10 and 11 at that of i, and with 12 and 16 at place 0.
+pub fn sigma(s: &[u8], t: &[u8], f: &[u8], i: &[u8], tray: &mut [u8]) -> Written
+    ensures { λ r. ⌜ lentOf r (now (tray .exit)) ≡ inTray (now (tray .entry)) (sheetOf (sigmaTables (now (s .entry)) (now (t .entry)) (now (f .entry)) (now (i .entry)))) ⌝ }
+{
+    let mut links = [0u32; Instance::LINKS];
+    let mut values = [0u32; Instance::VALUES];
+    let migrated = sigma_tables(s, t, f, i, &mut links, &mut values);
     write_migrated(migrated, &links, &values, &mut *tray)
 }

@@ -1,0 +1,49 @@
+-- What the judges of a mapping and a run over S give together.
+use Prim.Native.Nat.{ℕ}
+use mathlib.Core.Path.{_≡_}
+use mathlib.Core.List.{List}
+use Rattle.meaning.specs.Formats as formats
+use Rattle.meaning.specs.Judge.{judgeInstance}
+use Rattle.meaning.specs.Sigma.{sigma}
+use Rattle.meaning.specs.Calls as meaning
+use Rattle.meaning.specs.Calls.{Outcome, accepted, _>>=_, at, ensureFits, Migration, migration}
+use Rattle.mapping.specs.Judged.{Schemas}
+use Rattle.instance.specs.Decoded.{tablesOf, Limits}
+use Rattle.instance.specs.Tested.{Accepted}
+use Rattle.sigma.specs.Pushed.{Pushable}
+use Rattle.migration.specs.declared.runs.Run.{Run}
+use Rattle.migration.specs.Answers.{outcomeOf}
+use Rattle.migration.specs.Opened.{migrationOf, Ready}
+
+-- a mapping with its schemas, and a run
+pub record RunInput : Type 0 where
+  pub m : Migration
+  pub run : formats.Instance
+
+abbrev pub runInput : List ℕ → List ℕ → List ℕ → List ℕ → Outcome RunInput
+runInput s t f i = do
+  m ← migration s t f
+  I ← at 4 (judgeInstance (m .S) i)
+  accepted (record { m = m; run = I })
+
+-- Sigma of the run, and its size
+abbrev pub pushedRun : RunInput → Outcome meaning.Migrated
+pushedRun y = do
+  P ← ensureFits (sigma (y .m .S) (y .m .T) (y .m .F) (y .run))
+  accepted (record { schema = y .m .T; tables = P })
+
+-- ---- in working arrays: the run's links and values
+
+abbrev pub runInputOf : Run → List ℕ → List ℕ → RunInput
+runInputOf x links values = record { m = migrationOf (x .opened); run = tablesOf (x .opened .source) (x .run) links values }
+
+pub record RunSays (x : Run) (links values : List ℕ) (X : Outcome RunInput) : Type 0 where
+  pub says : outcomeOf (x .refusal) (runInputOf x links values) ≡ X
+  pub schemas : Schemas (x .opened .source) (x .opened .target) (x .opened .«source_paths») (x .opened .«target_paths»)
+  pub limits : Limits (x .opened .source) (x .run)
+  pub ready : (x .refusal .number ≡ 0 → Ready (x .opened))
+  pub accepted : (x .refusal .number ≡ 0 → Accepted (x .opened .source) (x .run) links values)
+
+-- what Sigma relies on
+abbrev pub PushableRun : Run → List ℕ → List ℕ → Type 0
+PushableRun x = Pushable (x .opened .source) (x .opened .target) (x .opened .«source_paths») (x .opened .«target_paths») (x .opened .mapping) (x .run)
