@@ -6,3 +6,8 @@ pub mod Pushing
 pub mod Opening
 pub mod Partners
 pub mod Texts
+pub mod Validity
+pub mod Judging
+pub mod Grouping
+pub mod Turning
+pub mod Demand3
