@@ -36,7 +36,9 @@ impl ListDamage {
         match self {
             PartnerBeyond => list.partners[table][row] = count,
             PartnerFar => list.partners[table][row] = 511,
-            OtherPartner => list.partners[table][row] = random.below(count),
+            OtherPartner => {
+                list.partners[table][row] = random.any_of(&(0..count).collect::<Vec<_>>())?;
+            }
             Exchanged => list.partners[table].swap(row, random.below(rows)),
         }
         let encodable = list.partners.iter().flatten().all(|&partner| partner < 512);
