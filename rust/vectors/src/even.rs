@@ -24,7 +24,7 @@ pub fn even_mapping(random: &mut Random) -> Mapped {
         let follows =
             |p: &Path| -> Vec<usize> { (0..k.rows[p.start]).map(|row| k.follow(p, row)).collect() };
         add_equations(random, &mut t, 3, |p, q| follows(p) == follows(q));
-        let bare = if random.once_in(2) { add_composite(random, &mut t, &mut k) } else { None };
+        let bare = if random.once_in(4) { None } else { add_composite(random, &mut t, &mut k) };
         if k.total_rows() == 0 || k.total_rows() > Schema::MOST_NODES || !is_accepted(&t) {
             continue;
         }
@@ -32,6 +32,28 @@ pub fn even_mapping(random: &mut Random) -> Mapped {
         elements.add_composites(random, &k);
         if elements.mapped.is_accepted() {
             return elements.mapped;
+        }
+    }
+}
+
+/// An accepted even mapping of one or two copies of a large schema to it.
+pub fn copies(random: &mut Random) -> Mapped {
+    loop {
+        let mut t = woven(random, 14, 14);
+        add_attributes(random, &mut t, 8);
+        add_equations(random, &mut t, 6, |_, _| true);
+        let count = 1 + random.below(2);
+        let k = Instance {
+            rows: vec![count; t.nodes],
+            links: vec![(0..count).collect(); t.edges.len()],
+            values: vec![vec![0; count]; t.attributes.len()],
+        };
+        if k.total_rows() > Schema::MOST_NODES || !is_accepted(&t) {
+            continue;
+        }
+        let Elements { mapped, .. } = Elements::over(random, t, &k, None);
+        if mapped.is_accepted() {
+            return mapped;
         }
     }
 }

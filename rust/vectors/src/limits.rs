@@ -17,6 +17,7 @@ pub fn limits() -> Vec<Case> {
     cases.extend(rows_of_results());
     cases.extend(components());
     cases.extend(tables_without_rows());
+    cases.extend(long_lifts());
     cases.extend(trays());
     cases
 }
@@ -259,6 +260,24 @@ fn tables_without_rows() -> Vec<Case> {
         case(Call::Sigma, graph(16, &[])),
         case(Call::Pi, graph(16, &[])),
     ]
+}
+
+/// Edges of T over which S has no edge but a longer path, equal to them by an
+/// equation of T, and not so without it.
+fn long_lifts() -> Vec<Case> {
+    let s = graph(4, &[(0, 1), (1, 2), (2, 3)]);
+    let f = mapping(&[0, 1, 2, 3], &[&[0], &[1], &[2]]);
+    let run = instance(&[2, 3, 2, 4], &[&[2, 0], &[1, 0, 1], &[3, 0]]);
+    let mut free = graph(4, &[(0, 1), (1, 2), (2, 3), (0, 2), (0, 3)]);
+    let case = |t: &Schema| {
+        let sheets = vec![s.to_sheet(), t.to_sheet(), f.to_sheet(), run.to_sheet()];
+        Case::new("lifts of two and three edges", Call::Sigma, sheets).with_tray(64)
+    };
+    let without = case(&free);
+    free.equations.push(equation(0, &[0, 1], &[3]));
+    let with_one = case(&free);
+    free.equations.push(equation(0, &[4], &[3, 2]));
+    vec![without, with_one, case(&free)]
 }
 
 /// Trays of every length up to two bytes more than the result has.

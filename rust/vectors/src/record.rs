@@ -38,7 +38,7 @@ pub fn stored_cases() -> Vec<Case> {
 const CASES_BY_CHANCE: usize = 3000;
 
 /// None of these is longer than so many bytes.
-const MOST_RECORD_BY_CHANCE: usize = 500;
+const MOST_RECORD_BY_CHANCE: usize = 1000;
 
 /// A case as a record.
 pub fn record(case: &Case) -> Vec<u8> {

@@ -2,7 +2,7 @@
 //! a run, a book, and lists of both sides.
 
 use crate::call::{Call, Kind};
-use crate::even::even_mapping;
+use crate::even::{copies, even_mapping};
 use crate::instances::{beside, instance, no_rows, shuffled};
 use crate::mappings::{mapping, Mapped};
 use crate::random::Random;
@@ -54,10 +54,12 @@ pub struct World {
 }
 
 impl World {
-    /// Any world: most have an even mapping, and most of these have matchings.
+    /// Any world: most have an even mapping, and most of these have matchings;
+    /// one in 20 is large.
     pub fn any(random: &mut Random, generators: usize) -> Self {
-        let kind = random.below(6);
+        let (kind, large) = (random.below(6), random.once_in(20));
         let mapped = match kind {
+            _ if large => copies(random),
             0 | 1 => mapping(random, kind == 0),
             _ => even_mapping(random),
         };

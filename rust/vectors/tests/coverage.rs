@@ -186,6 +186,8 @@ fn limits_are_met_on_both_sides() {
     check(Call::Pi, together, &[full, over, full, over, full]);
     check(Call::CheckRaw, together, &[full, over, over, over, full, full]);
     check(Call::PushedToRaw, together, &[full, over, over, over, full, refused(16, 0)]);
+    let uneven = refused(12, 0);
+    check(Call::Sigma, "lifts of two and three edges", &[uneven, uneven, full]);
     check(Call::CheckInstance, "the longest instance", &[full]);
     check(Call::CheckInstance, "the longest, cut", &[refused(1, 2)]);
     check(Call::CheckInstance, "the longest, dangling", &[refused(9, 2)]);
