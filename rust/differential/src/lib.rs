@@ -94,9 +94,8 @@ pub fn library_outcome(case: &Case) -> Result<Outcome, &'static str> {
 }
 
 /// The call through the wrapper.
-fn call(call: Call, sheets: &[Vec<u8>], tray: &mut [u8]) -> Result<usize, Refusal> {
-    let lent: Vec<&[u8]> = sheets.iter().map(Vec::as_slice).collect();
-    match (call, lent.as_slice()) {
+pub fn call(call: Call, sheets: &[Vec<u8>], tray: &mut [u8]) -> Result<usize, Refusal> {
+    match (call, sheets) {
         (Call::CheckSchema, [s]) => check_schema(s).map(|()| 0),
         (Call::CheckMapping, [s, t, f]) => check_mapping(s, t, f).map(|()| 0),
         (Call::CheckInstance, [s, i]) => check_instance(s, i).map(|()| 0),

@@ -12,7 +12,7 @@ mod push;
 mod schema;
 
 use instance::Instance;
-use mapping::Mapping;
+use mapping::{Mapping, Side};
 use schema::Schema;
 
 /// A refusal: the number and the sheet's place.
@@ -41,9 +41,9 @@ pub fn check_instance(s: &[u8], i: &[u8]) -> Result<(), Refusal> {
 /// Sigma of an instance of S along an even mapping, into a tray: the result's
 /// byte length.
 pub fn sigma(s: &[u8], t: &[u8], f: &[u8], i: &[u8], tray: &mut [u8]) -> Result<usize, Refusal> {
-    let s = at(1, Schema::read(s))?;
-    let t = at(2, Schema::read(t))?;
+    let s = Side::of(at(1, Schema::read(s))?);
+    let t = Side::of(at(2, Schema::read(t))?);
     let f = at(3, Mapping::read(&s, &t, f))?;
-    let i = at(4, Instance::read(&s, i))?;
+    let i = at(4, Instance::read(&s.schema, i))?;
     at(0, push::push(&s, &t, &f, &i, tray))
 }

@@ -1,11 +1,25 @@
 //! Mapping sheets, and evenness.
 
 use crate::bits::Reader;
-use crate::schema::{end_of, read_edges, Schema};
+use crate::paths::Paths;
+use crate::schema::{end_of, read_edges, Equation, Schema};
 use crate::Judged;
 
 const MISFIT: u8 = 7;
 const BROKEN_RULE: u8 = 8;
+
+/// An accepted schema with its paths.
+pub struct Side {
+    pub schema: Schema,
+    pub paths: Paths,
+}
+
+impl Side {
+    pub fn of(schema: Schema) -> Self {
+        let paths = Paths::of(&schema);
+        Side { schema, paths }
+    }
+}
 
 /// An accepted mapping.
 pub struct Mapping {
@@ -24,7 +38,8 @@ const NONE: u16 = u16::MAX;
 
 impl Mapping {
     /// Reads and judges a mapping sheet.
-    pub fn read(s: &Schema, t: &Schema, sheet: &[u8]) -> Judged<Self> {
+    pub fn read(s: &Side, t: &Side, sheet: &[u8]) -> Judged<Self> {
+        let (Side { schema: s, paths: s_paths }, Side { schema: t, paths: t_paths }) = (s, t);
         let mut reader = Reader::new(sheet);
         reader.need(4 * s.nodes)?;
         let nodes: Vec<u8> = (0..s.nodes).map(|_| reader.take(4) as u8).collect();
@@ -45,14 +60,12 @@ impl Mapping {
         if !fits {
             return Err(MISFIT);
         }
-        let images = images(s, t, &nodes, &edges);
+        let images = images(s, s_paths, t_paths, &nodes, &edges);
         let class = |start: u8, path: &[u8]| {
-            let path = s.paths.along(usize::from(start), path);
-            t.paths.class[usize::from(images[path])]
+            let path = s_paths.along(usize::from(start), path);
+            t_paths.class[usize::from(images[path])]
         };
-        let kept = |(start, left, right): &(u8, Vec<u8>, Vec<u8>)| {
-            class(*start, left) == class(*start, right)
-        };
+        let kept = |(start, left, right): &Equation| class(*start, left) == class(*start, right);
         if !s.equations.iter().all(kept) {
             return Err(BROKEN_RULE);
         }
@@ -60,20 +73,21 @@ impl Mapping {
     }
 
     /// The lifts of all paths, if the mapping is even.
-    pub fn lifts(&self, s: &Schema, t: &Schema) -> Option<Lifts> {
+    pub fn lifts(&self, s: &Side, t: &Side) -> Option<Lifts> {
+        let (Side { schema: s, paths: s_paths }, Side { schema: t, paths: t_paths }) = (s, t);
         let mut first = vec![[NONE; 256]; s.nodes];
-        for path in 0..s.paths.len() {
-            let class = t.paths.class[usize::from(self.images[path])];
-            let place = &mut first[usize::from(s.paths.start[path])][usize::from(class)];
+        for path in 0..s_paths.len() {
+            let class = t_paths.class[usize::from(self.images[path])];
+            let place = &mut first[usize::from(s_paths.start[path])][usize::from(class)];
             if *place == NONE {
                 *place = path as u16;
-            } else if s.paths.class[usize::from(*place)] != s.paths.class[path] {
+            } else if s_paths.class[usize::from(*place)] != s_paths.class[path] {
                 return None;
             }
         }
         for (c, &d) in self.nodes.iter().enumerate() {
-            let mut paths = (0..t.paths.len()).filter(|&q| t.paths.start[q] == d);
-            if paths.any(|q| first[c][usize::from(t.paths.class[q])] == NONE) {
+            let mut paths = (0..t_paths.len()).filter(|&q| t_paths.start[q] == d);
+            if paths.any(|q| first[c][usize::from(t_paths.class[q])] == NONE) {
                 return None;
             }
             let mut columns = (0..t.attributes.len()).filter(|&b| t.attributes[b].node == d);
@@ -104,21 +118,27 @@ impl Mapping {
 
 impl Lifts {
     /// The path of S at c over an edge of T.
-    pub fn over(&self, t: &Schema, c: usize, edge: u8) -> usize {
-        let source = t.edges[usize::from(edge)].source;
+    pub fn over(&self, t: &Side, c: usize, edge: u8) -> usize {
+        let source = t.schema.edges[usize::from(edge)].source;
         let class = t.paths.class[t.paths.along(usize::from(source), &[edge])];
         usize::from(self.first[c][usize::from(class)])
     }
 }
 
 /// The image of every path.
-fn images(s: &Schema, t: &Schema, nodes: &[u8], edges: &[Vec<u8>]) -> Vec<u8> {
+fn images(
+    s: &Schema,
+    s_paths: &Paths,
+    t_paths: &Paths,
+    nodes: &[u8],
+    edges: &[Vec<u8>],
+) -> Vec<u8> {
     let mut images = nodes.to_vec();
-    images.reserve(s.paths.len());
-    for path in s.nodes..s.paths.len() {
-        let (before, edge) = s.paths.without_last[path];
+    images.reserve(s_paths.len());
+    for path in s.nodes..s_paths.len() {
+        let (before, edge) = s_paths.without_last[path];
         let image = usize::from(images[usize::from(before)]);
-        images.push(t.paths.along(image, &edges[usize::from(edge)]) as u8);
+        images.push(t_paths.along(image, &edges[usize::from(edge)]) as u8);
     }
     images
 }

@@ -1,6 +1,6 @@
 //! All paths of a schema in their order, and their classes.
 
-use crate::schema::Edge;
+use crate::schema::{Equation, Schema};
 
 /// At most 256 paths; the trivial path at a node has the node's number.
 pub struct Paths {
@@ -22,8 +22,10 @@ pub struct Paths {
 }
 
 impl Paths {
-    /// The paths of a schema without loop, which are not too many.
-    pub fn new(nodes: usize, edges: &[Edge]) -> Self {
+    /// The paths of an accepted schema.
+    pub fn of(schema: &Schema) -> Self {
+        let Schema { nodes, edges, .. } = schema;
+        let nodes = *nodes;
         let mut leaving = vec![0u8; nodes];
         let mut rank = Vec::with_capacity(edges.len());
         for edge in edges {
@@ -52,7 +54,9 @@ impl Paths {
             path += 1;
         }
         let class = (0..end.len()).map(|path| path as u8).collect();
-        Paths { start, end, without_last, first_child, rank, leaving, class }
+        let mut paths = Paths { start, end, without_last, first_child, rank, leaving, class };
+        paths.equate(&schema.equations);
+        paths
     }
 
     pub fn len(&self) -> usize {
@@ -80,7 +84,7 @@ impl Paths {
 
     /// Joins the classes of what equations make equal: each pair with every path
     /// before it, and whatever follows a pair that was joined.
-    pub fn equate(&mut self, equations: &[(u8, Vec<u8>, Vec<u8>)]) {
+    fn equate(&mut self, equations: &[Equation]) {
         let mut waiting: Vec<(usize, usize)> = Vec::new();
         for (start, left, right) in equations {
             for before in 0..self.len() {

@@ -1,7 +1,6 @@
 //! Schema sheets.
 
 use crate::bits::Reader;
-use crate::paths::Paths;
 use crate::Judged;
 
 const COUNT: u8 = 3;
@@ -23,15 +22,16 @@ pub struct Attribute {
     pub kind: u8,
 }
 
-/// An accepted schema with its paths.
+/// An accepted schema.
 pub struct Schema {
     pub nodes: usize,
     pub edges: Vec<Edge>,
     pub attributes: Vec<Attribute>,
-    /// Start, and the edges of both sides.
-    pub equations: Vec<(u8, Vec<u8>, Vec<u8>)>,
-    pub paths: Paths,
+    pub equations: Vec<Equation>,
 }
+
+/// Start, and the edges of both sides.
+pub type Equation = (u8, Vec<u8>, Vec<u8>);
 
 /// A start node and edges, as a sheet has them.
 type Side = (u8, Vec<u8>);
@@ -63,9 +63,7 @@ impl Schema {
         if count_paths(nodes, &edges).ok_or(RING)? > 256 {
             return Err(CROWD);
         }
-        let mut paths = Paths::new(nodes, &edges);
-        paths.equate(&equations);
-        Ok(Schema { nodes, edges, attributes, equations, paths })
+        Ok(Schema { nodes, edges, attributes, equations })
     }
 }
 
@@ -95,7 +93,7 @@ fn joined(
     edges: &[Edge],
     attributes: &[Attribute],
     sides: Vec<Side>,
-) -> Option<Vec<(u8, Vec<u8>, Vec<u8>)>> {
+) -> Option<Vec<Equation>> {
     let is_node = |node: u8| usize::from(node) < nodes;
     let fits = edges.iter().all(|edge| is_node(edge.source) && is_node(edge.target))
         && attributes.iter().all(|attribute| is_node(attribute.node));
