@@ -25,6 +25,12 @@ pub struct Instance {
 impl Instance {
     /// Reads and judges an instance sheet.
     pub fn read(schema: &Schema, sheet: &[u8]) -> Judged<Self> {
+        let instance = Self::decode(schema, sheet)?;
+        instance.judge(schema)?;
+        Ok(instance)
+    }
+
+    fn decode(schema: &Schema, sheet: &[u8]) -> Judged<Self> {
         let mut reader = Reader::new(sheet);
         reader.need(10 * schema.nodes)?;
         let rows: Vec<usize> = (0..schema.nodes).map(|_| reader.take(10) as usize).collect();
@@ -45,26 +51,29 @@ impl Instance {
         });
         let values: Vec<Vec<u32>> = values.collect();
         reader.finish()?;
-        for (edge, targets) in schema.edges.iter().zip(&links) {
-            let count = of(edge.target);
+        Ok(Instance { rows, links, values })
+    }
+
+    fn judge(&self, schema: &Schema) -> Judged<()> {
+        for (edge, targets) in schema.edges.iter().zip(&self.links) {
+            let count = self.rows[usize::from(edge.target)];
             if targets.iter().any(|&row| usize::from(row) >= count) {
                 return Err(DANGLING);
             }
         }
-        for (attribute, column) in schema.attributes.iter().zip(&values) {
+        for (attribute, column) in schema.attributes.iter().zip(&self.values) {
             let largest = LARGEST[usize::from(attribute.kind)];
             if column.iter().any(|&value| value > largest) {
                 return Err(OFF_SCALE);
             }
         }
-        let instance = Instance { rows, links, values };
         for (start, left, right) in &schema.equations {
-            let mut rows = 0..instance.rows[usize::from(*start)];
-            if rows.any(|row| instance.follow(left, row) != instance.follow(right, row)) {
+            let mut rows = 0..self.rows[usize::from(*start)];
+            if rows.any(|row| self.follow(left, row) != self.follow(right, row)) {
                 return Err(BENT_ROW);
             }
         }
-        Ok(instance)
+        Ok(())
     }
 
     /// The row that edges lead to.

@@ -76,17 +76,11 @@ impl InstanceDamage {
                 let table = random.below(schema.nodes);
                 instance.rows[table] += 513 - instance.total_rows();
             }
-            ManyRows => instance.rows.fill(1023),
-            ManyRowsCut => {
-                instance.rows.fill(1023);
-                let sheet = instance.to_sheet();
-                return Some(sheet[..1 + random.below(counts_bytes - 1)].to_vec());
+            ManyRows | ManyRowsCut => instance.rows.fill(1023),
+            CountsAlone => {}
+            DanglingByOne | DanglingAndTail => {
+                dangle(random, schema, &mut instance, |count| count)?;
             }
-            CountsAlone => {
-                let sheet = instance.to_sheet();
-                return (sheet.len() > counts_bytes).then(|| sheet[..counts_bytes].to_vec());
-            }
-            DanglingByOne => dangle(random, schema, &mut instance, |count| count)?,
             DanglingFar => dangle(random, schema, &mut instance, |_| 511)?,
             OffScaleByOne => raise(random, schema, &mut instance, |largest| largest + 1)?,
             OffScaleFar => raise(random, schema, &mut instance, |_| u32::MAX)?,
@@ -99,11 +93,12 @@ impl InstanceDamage {
                 bend(random, schema, &mut instance)?;
                 raise(random, schema, &mut instance, |largest| largest + 1)?;
             }
-            DanglingAndTail => dangle(random, schema, &mut instance, |count| count)?,
         }
         let mut sheet = instance.to_sheet();
         match self {
-            ManyRowsAlone => sheet.truncate(counts_bytes),
+            ManyRowsCut => sheet.truncate(1 + random.below(counts_bytes - 1)),
+            CountsAlone if sheet.len() == counts_bytes => return None,
+            CountsAlone | ManyRowsAlone => sheet.truncate(counts_bytes),
             DanglingAndTail => sheet.push(0),
             _ => {}
         }

@@ -82,14 +82,7 @@ impl MappingDamage {
             }
             LooseImage | OtherStart | OtherEnd => self.other_image(random, &mut done)?,
             OtherKind | OtherNode => self.other_attribute(random, &mut done)?,
-            BrokenRule => {
-                let classes = Classes::of(t);
-                let class = |p: &Path| classes.class(&f.path_image(p));
-                let mut pairs = parallel_pairs(s);
-                pairs.retain(|(p, q)| class(p) != class(q));
-                let (left, right) = random.any_of(&pairs)?;
-                done.s.equations.push(Equation { left, right });
-            }
+            BrokenRule => done.s.equations.push(broken_rule(random, s, t, f)?),
             RuleLeftOut => {
                 done.t.equations.clear();
                 let classes = Classes::of(&done.t);
@@ -145,6 +138,16 @@ impl MappingDamage {
         f.attributes[a] = random.any_of(&images)?;
         Some(())
     }
+}
+
+/// An equation of S whose images are unequal.
+fn broken_rule(random: &mut Random, s: &Schema, t: &Schema, f: &Mapping) -> Option<Equation> {
+    let classes = Classes::of(t);
+    let class = |p: &Path| classes.class(&f.path_image(p));
+    let mut pairs = parallel_pairs(s);
+    pairs.retain(|(p, q)| class(p) != class(q));
+    let (left, right) = random.any_of(&pairs)?;
+    Some(Equation { left, right })
 }
 
 /// A number from `count` up to `bound`.

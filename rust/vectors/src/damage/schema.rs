@@ -108,68 +108,74 @@ impl SchemaDamage {
                 put(&mut sheet, 5, 6, 33);
                 sheet.truncate(3);
             }
-            _ => return self.changed(random, schema.clone()).map(|schema| schema.to_sheet()),
+            SelfLoop | Ring | RingAndCrowd | OnePathTooMany | ManyPaths => {
+                return within_counts(self.looped(random, schema.clone())?);
+            }
+            StrayStart | StrayEdge | LooseEdges | OtherStart | OtherEnd => {
+                let mut schema = schema.clone();
+                let equation = self.equation(random, &schema)?;
+                schema.equations.push(equation);
+                return within_counts(schema);
+            }
+            _ => return within_counts(self.stray(random, schema.clone())?),
         }
         Some(sheet)
     }
 
-    /// The schema with one thing changed.
-    fn changed(self, random: &mut Random, mut schema: Schema) -> Option<Schema> {
-        let nodes = schema.nodes;
-        let any_edge = |random: &mut Random, schema: &Schema| {
-            random.any_of(&(0..schema.edges.len()).collect::<Vec<_>>())
-        };
+    /// The schema with an edge or an attribute at a missing node.
+    fn stray(self, random: &mut Random, mut schema: Schema) -> Option<Schema> {
+        let node = missing(random, schema.nodes)?;
         match self {
             StraySource => {
                 let edge = any_edge(random, &schema)?;
-                schema.edges[edge].source = missing(random, nodes)?;
+                schema.edges[edge].source = node;
             }
             StrayTarget => {
                 let edge = any_edge(random, &schema)?;
-                schema.edges[edge].target = missing(random, nodes)?;
+                schema.edges[edge].target = node;
             }
-            StrayAttribute => {
-                let node = missing(random, nodes)?;
-                schema.attributes.push(Attribute { node, kind: random.below(16) });
-            }
-            StrayStart => {
-                let start = missing(random, nodes)?;
-                schema.equations.push(build::equation(start, &[], &[]));
-            }
+            _ => schema.attributes.push(Attribute { node, kind: random.below(16) }),
+        }
+        if self == StrayAndRing {
+            schema.edges.push(Edge { source: 0, target: 0 });
+        }
+        Some(schema)
+    }
+
+    /// An equation that is stray in the schema.
+    fn equation(self, random: &mut Random, schema: &Schema) -> Option<Equation> {
+        let same = |start: usize, edges: &[usize]| build::equation(start, edges, edges);
+        match self {
+            StrayStart => Some(same(missing(random, schema.nodes)?, &[])),
             StrayEdge => {
                 let edge = random.any_of(&(schema.edges.len()..32).collect::<Vec<_>>())?;
-                schema.equations.push(build::equation(random.below(nodes), &[edge], &[edge]));
+                Some(same(random.below(schema.nodes), &[edge]))
             }
             LooseEdges => {
-                let (one, other) = (any_edge(random, &schema)?, any_edge(random, &schema)?);
+                let (one, other) = (any_edge(random, schema)?, any_edge(random, schema)?);
                 let joined = schema.edges[one].target == schema.edges[other].source;
-                let start = schema.edges[one].source;
-                schema.equations.push(build::equation(start, &[one, other], &[one, other]));
-                return (!joined).then_some(schema);
+                (!joined).then(|| same(schema.edges[one].source, &[one, other]))
             }
             OtherStart => {
-                let mut pairs = Vec::new();
-                for (one, edge) in schema.edges.iter().enumerate() {
-                    let other = schema.edges.iter().position(|other| {
-                        other.target == edge.target && other.source != edge.source
-                    });
-                    pairs.extend(other.map(|other| (one, other)));
-                }
-                let (one, other) = random.any_of(&pairs)?;
-                let (left, right) = (Path::along(&schema, one), Path::along(&schema, other));
-                schema.equations.push(Equation { left, right });
+                let one = any_edge(random, schema)?;
+                let Edge { source, target } = schema.edges[one];
+                let other =
+                    schema.edges.iter().position(|e| e.target == target && e.source != source)?;
+                let (left, right) = (Path::along(schema, one), Path::along(schema, other));
+                Some(Equation { left, right })
             }
-            OtherEnd => {
-                let edge = any_edge(random, &schema)?;
-                let start = schema.edges[edge].source;
-                schema.equations.push(build::equation(start, &[edge], &[]));
+            _ => {
+                let edge = any_edge(random, schema)?;
+                Some(build::equation(schema.edges[edge].source, &[edge], &[]))
             }
-            StrayAndRing => {
-                schema.edges.push(Edge { source: 0, target: 0 });
-                schema.attributes.push(Attribute { node: missing(random, nodes)?, kind: 0 });
-            }
+        }
+    }
+
+    /// A schema with a loop, or with too many paths.
+    fn looped(self, random: &mut Random, mut schema: Schema) -> Option<Schema> {
+        match self {
             SelfLoop => {
-                let node = random.below(nodes);
+                let node = random.below(schema.nodes);
                 schema.edges.push(Edge { source: node, target: node });
             }
             Ring => {
@@ -187,14 +193,23 @@ impl SchemaDamage {
                 schema.nodes = 16;
                 schema.edges.push(Edge { source: 7, target: 8 });
             }
-            ManyPaths => schema = build::doubled_chain(10 + random.below(7)),
-            _ => unreachable!("damage to the counts"),
+            _ => schema = build::doubled_chain(10 + random.below(7)),
         }
-        let fits = schema.edges.len() <= Schema::MOST_EDGES
-            && schema.attributes.len() <= Schema::MOST_ATTRIBUTES
-            && schema.equations.len() <= Schema::MOST_EQUATIONS;
-        fits.then_some(schema)
+        Some(schema)
     }
+}
+
+/// The schema's sheet, if its counts are within their limits.
+fn within_counts(schema: Schema) -> Option<Vec<u8>> {
+    let within = schema.edges.len() <= Schema::MOST_EDGES
+        && schema.attributes.len() <= Schema::MOST_ATTRIBUTES
+        && schema.equations.len() <= Schema::MOST_EQUATIONS;
+    within.then(|| schema.to_sheet())
+}
+
+/// The number of an edge.
+fn any_edge(random: &mut Random, schema: &Schema) -> Option<usize> {
+    random.any_of(&(0..schema.edges.len()).collect::<Vec<_>>())
 }
 
 /// The number of a node that is not there.
