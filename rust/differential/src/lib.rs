@@ -4,6 +4,8 @@
 #![forbid(unsafe_code)]
 #![warn(missing_docs)]
 
+pub mod program;
+
 use migration::*;
 use std::fmt;
 use vectors::answer::{reference_outcome, Outcome, FILLING};
