@@ -2,7 +2,7 @@
 # Builds the C example against the static library, runs it, and compares what it prints.
 set -euo pipefail
 cd "$(dirname "${BASH_SOURCE[0]}")/../.."
-rt staticlib migration
+.ci/archive
 out=target/examples
 mkdir -p "$out"
 cc -std=c99 -Wall -Wextra -Werror -O2 -Iinclude examples/c/pull_base.c target/staticlib/libmigration.a -o "$out/pull_base"
