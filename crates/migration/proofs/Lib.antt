@@ -6,3 +6,9 @@ pub mod Pushing
 pub mod Joining
 pub mod Opening
 pub mod Partners
+pub mod Texts
+pub mod Validity
+pub mod Judging
+pub mod Grouping
+pub mod Turning
+pub mod Demand3

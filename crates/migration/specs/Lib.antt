@@ -4,3 +4,6 @@ pub mod Runs
 pub mod Migrated
 pub mod Sides
 pub mod Matched
+pub mod Printed
+pub mod Turnable
+pub mod Demand3

@@ -101,31 +101,32 @@ fn push_run(
 {
     let opened = x.opened;
     let target = opened.target;
-    let tables = sigma::sigma(
+    let run = x.run;
+    let pushed = sigma::sigma(
         opened.source,
         target,
         opened.source_paths,
         opened.target_paths,
         opened.mapping,
-        x.run,
+        run,
         run_links,
         run_values,
         &mut *links,
         &mut *values,
     );
     let size = Refusal {
-        number: overfull(target, tables),
+        number: overfull(target, pushed),
         place: 0,
     };
     Migrated {
         refusal: size,
         schema: target,
-        tables: tables,
+        tables: pushed,
     }
 }
 
 // Sigma's tables in working arrays.
-fn sigma_tables(
+pub(crate) fn sigma_tables(
     s: &[u8],
     t: &[u8],
     f: &[u8],

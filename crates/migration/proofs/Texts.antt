@@ -1,0 +1,53 @@
+-- What push prints: the text of Sigma's tables, which can be printed, or of the refusal.
+use Prim.Native.Nat.{ℕ, _≤_}
+use mathlib.Core.Path.{_≡_, refl, sym, ap, _∙_}
+use mathlib.Core.List.{List, _++_}
+use native.Mathlib.Omega.{arith}
+use lib.ListN.{length, drop, length-append}
+use Rattle.meaning.specs.Formats.{instanceSheet}
+use Rattle.meaning.specs.Program.{printed, shown}
+use Rattle.meaning.specs.Calls as meaning
+use Rattle.meaning.specs.Calls.{refused, accepted, sigmaTables}
+use Rattle.meaning.proofs.Facts.{instance-facts}
+use Rattle.agreement.proofs.Statements.{sigma-agrees}
+use Rattle.instance.specs.Decoded.{Room}
+use Rattle.text.specs.declared.Text.{Text}
+use Rattle.text.specs.Written.{maxTextBytes, Printable, Written}
+use Rattle.migration.specs.declared.Refusal.{Refusal}
+use Rattle.migration.specs.declared.results.Migrated.{Migrated}
+use Rattle.migration.specs.Answers.{outcomeOf}
+use Rattle.migration.specs.Migrated.{migratedOf, Migrates}
+use Rattle.migration.specs.Printed.{Prints}
+use Rattle.migration.proofs.Refusing.{no-refusal, some-refusal}
+
+module _ (r : Refusal) (m : meaning.Migrated) {old new : List ℕ} {t : Text} where
+  pub result-printed : r .number ≡ 0 → Written (printed m) old t new → Written (shown (outcomeOf r m)) old t new
+  result-printed e w = rw (no-refusal r m e) w
+
+  pub refusal-printed : (r .number ≡ 0 → ⊥) → Written (shown (refused (r .number) (r .place))) old t new → Written (shown (outcomeOf r m)) old t new
+  refusal-printed e w = rw (some-refusal r m e) w
+
+module _ {m : Migrated} {links values : List ℕ} (s t f i : List ℕ) (M : Migrates m links values (sigmaTables s t f i)) where
+  -- Sigma's sheet is an instance sheet, so its links have 9 bits
+  pub printable : Room links values → m .refusal .number ≡ 0 → Printable (m .schema) (m .tables) links values
+  printable room none =
+      let e : sigmaTables s t f i ≡ accepted (migratedOf m links values) = sym (M .says) ∙ no-refusal (m .refusal) (migratedOf m links values) none in
+      let a = sigma-agrees s t f i e in
+      record {
+        limits = M .writable .sound .limits;
+        room = room;
+        rows = M .writable .limits none .rows;
+        targets = λ e l r. instance-facts (a .T) (instanceSheet (migratedOf m links values .tables)) (a .lendable .lent-again) .fits-fields .link-below e r;
+      }
+
+  pub prints : {text old new : List ℕ} {r : Text} → text ≡ shown (sigmaTables s t f i) → maxTextBytes ≤ length old
+      → Written (shown (outcomeOf (m .refusal) (migratedOf m links values))) old r new → Prints text old (r .length) new
+  prints {text} {old} {new} {r} e large w =
+      let d : shown (outcomeOf (m .refusal) (migratedOf m links values)) ≡ text = ap shown (M .says) ∙ sym e in
+      let n : r .length ≡ length text = w .length-is ∙ ap (λ (l : List ℕ). length l) d in
+      let b : new ≡ text ++ drop (length text) old = rw d at (w .bytes) in
+      let k : length new ≡ length (text ++ drop (length text) old) = ap (λ (l : List ℕ). length l) b in
+      record { length-is = λ _. n; bytes = λ _. b; small = λ few. absurd (few large); inside = omega (arith, n, k, length-append text (drop (length text) old)) }
+
+pub prints-nothing : (text old : List ℕ) → (maxTextBytes ≤ length old → ⊥) → Prints text old 0 old
+prints-nothing text old few = record { length-is = λ h. absurd (few h); bytes = λ h. absurd (few h); small = λ _. (refl, refl); inside = omega arith }

@@ -1,0 +1,54 @@
+// The push program's work: from the bytes that it reads to the text that it prints.
+use crate::migrate::sigma_tables;
+use crate::results::Migrated;
+use instance::Instance;
+use text::Text;
+use text::framing::bytes_of;
+use text::framing::sheets_of;
+use text::write_refusal;
+use text::write_tables;
+ghost use mathlib.Core.Path.{_≡_};
+ghost use Prim.Native.Nat.{_≤_};
+ghost use lib.ListN.{length};
+ghost use Rattle.meaning.specs.Program as program;
+ghost use Rattle.text.specs.Written.{maxTextBytes, Printable, Written};
+ghost use Rattle.migration.specs.Answers.{outcomeOf};
+ghost use Rattle.migration.specs.Migrated.{migratedOf};
+ghost use Rattle.migration.specs.Printed.{Prints};
+
+// Writes the text of a migrated instance, or of the refusal.
+fn print(m: Migrated, links: &[u32], values: &[u32], out: &mut [u8]) -> Text
+    requires { ⌜ (m .refusal .number ≡ 0 → Printable (m .schema) (m .tables) (now links) (now values)) × (maxTextBytes ≤ length (now out)) ⌝ }
+    ensures { λ r. ⌜ Written (program.shown (outcomeOf (m .refusal) (migratedOf m (now (links .entry)) (now (values .entry))))) (now (out .entry)) r (now (out .exit)) ⌝ }
+{
+    let refusal = m.refusal;
+    if refusal.number == 0 {
+        let schema = m.schema;
+        let tables = m.tables;
+        return write_tables(&mut *out, schema, tables, links, values);
+    }
+    write_refusal(&mut *out, refusal.number, refusal.place)
+}
+
+// What the program push prints for an input, written to the front of out: its length. Where out has fewer than 159,251 bytes, which hold every
+// text, nothing is written, and the answer is 0.
+pub fn push(input: &[u8], out: &mut [u8]) -> usize
+    ensures { λ r. ⌜ Prints (program.push (now (input .entry))) (now (out .entry)) r (now (out .exit)) ⌝ }
+{
+    if out.len() < Text::BYTES {
+        return 0;
+    }
+    let mut links = [0u32; Instance::LINKS];
+    let mut values = [0u32; Instance::VALUES];
+    let sheets = sheets_of(input);
+    let migrated = sigma_tables(
+        bytes_of(input, sheets.s),
+        bytes_of(input, sheets.t),
+        bytes_of(input, sheets.mapping),
+        bytes_of(input, sheets.run),
+        &mut links,
+        &mut values,
+    );
+    let text = print(migrated, &links, &values, &mut *out);
+    text.length
+}
