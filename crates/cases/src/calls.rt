@@ -1,0 +1,69 @@
+// The calls by their numbers in a record.
+use migration::exports::migration_check_instance;
+use migration::exports::migration_check_mapping;
+use migration::exports::migration_check_pushed;
+use migration::exports::migration_check_raw;
+use migration::exports::migration_check_schema;
+use migration::exports::migration_delta;
+use migration::exports::migration_pi;
+use migration::exports::migration_pushed_to_raw;
+use migration::exports::migration_raw_to_pushed;
+use migration::exports::migration_same_path;
+use migration::exports::migration_sigma;
+
+// The calls that write into the tray.
+fn written<'a>(
+    call: u8,
+    s: &'a [u8],
+    t: &'a [u8],
+    f: &'a [u8],
+    i: &'a [u8],
+    j: &'a [u8],
+    k: &'a [u8],
+    tray: &mut [u8],
+) -> u64 {
+    if call == 4 {
+        return migration_delta(s, t, f, i, &mut *tray);
+    }
+    if call == 5 {
+        return migration_sigma(s, t, f, i, &mut *tray);
+    }
+    if call == 6 {
+        return migration_pi(s, t, f, i, &mut *tray);
+    }
+    if call == 9 {
+        return migration_pushed_to_raw(s, t, f, i, j, k, &mut *tray);
+    }
+    migration_raw_to_pushed(s, t, f, i, j, k, &mut *tray)
+}
+
+pub(crate) fn answer<'a>(
+    call: u8,
+    s: &'a [u8],
+    t: &'a [u8],
+    f: &'a [u8],
+    i: &'a [u8],
+    j: &'a [u8],
+    k: &'a [u8],
+    tray: &mut [u8],
+) -> u64 {
+    if call == 0 {
+        return migration_check_schema(s);
+    }
+    if call == 1 {
+        return migration_check_mapping(s, t, f);
+    }
+    if call == 2 {
+        return migration_check_instance(s, t);
+    }
+    if call == 3 {
+        return migration_same_path(s, t, f);
+    }
+    if call == 7 {
+        return migration_check_pushed(s, t, f, i, j, k);
+    }
+    if call == 8 {
+        return migration_check_raw(s, t, f, i, j, k);
+    }
+    written(call, s, t, f, i, j, k, &mut *tray)
+}

@@ -1,0 +1,111 @@
+// The program cases: reads calls with their sheets and tray lengths, makes each call, and prints its answer and a checksum of the tray.
+// docs/TESTS.md has the form of a record and of a line.
+mod calls;
+
+use calls::answer;
+use text::framing::bytes_of;
+use text::framing::sheet_at;
+ghost use Prim.Native.Nat.{_+_, _≤_, _<_};
+ghost use lib.ListN.{length};
+
+fn mixed(sum: u64, byte: u8) -> u64 {
+    (sum % 4294967291 * 257 + byte as u64 + 1) % 4294967291
+}
+
+fn checksum(tray: &[u8]) -> u64 {
+    let n = tray.len();
+    let mut sum = 0;
+    let mut i = 0;
+    while i < n {
+        sum = mixed(sum, tray[i]);
+        i += 1;
+    }
+    sum
+}
+
+fn wide(x: u8) -> usize
+    ensures { λ r. ⌜ r < 256 ⌝ }
+{
+    x as usize
+}
+
+fn number_at(input: &[u8], at: usize) -> usize
+    requires { ⌜ at + 2 ≤ length (now input) ⌝ }
+    ensures { λ r. ⌜ r < 65536 ⌝ }
+{
+    256 * wide(input[at]) + wide(input[at + 1])
+}
+
+// Makes a call, and prints its answer and the checksum of the tray on a line.
+fn put_answer<'a>(
+    call: u8,
+    s: &'a [u8],
+    t: &'a [u8],
+    f: &'a [u8],
+    i: &'a [u8],
+    j: &'a [u8],
+    k: &'a [u8],
+    tray: &mut [u8],
+) {
+    io::print_decimal(1, answer(call, s, t, f, i, j, k, &mut *tray));
+    io::write_all(1, b" ");
+    io::print_decimal(1, checksum(&*tray));
+    io::write_all(1, b"\n");
+}
+
+// Where a number ends.
+fn after(input: &[u8], at: usize) -> usize
+    requires { ⌜ at + 2 ≤ length (now input) ⌝ }
+    ensures { λ r. ⌜ r ≤ length (now (input .entry)) ⌝ }
+{
+    at + 2
+}
+
+// Makes the call of the record at a position; gives where the next one stands.
+fn make_call(input: &[u8], at: usize) -> usize
+    requires { ⌜ at < length (now input) ⌝ }
+    ensures { λ r. ⌜ r ≤ length (now (input .entry)) ⌝ }
+{
+    let a = sheet_at(input, at + 1);
+    let b = sheet_at(input, a.end);
+    let c = sheet_at(input, b.end);
+    let d = sheet_at(input, c.end);
+    let e = sheet_at(input, d.end);
+    let f = sheet_at(input, e.end);
+    let last = f.end;
+    if input.len() - last < 2 {
+        return input.len();
+    }
+    let room = number_at(input, last);
+    let mut tray = [165u8; 65536];
+    put_answer(
+        input[at],
+        bytes_of(input, a),
+        bytes_of(input, b),
+        bytes_of(input, c),
+        bytes_of(input, d),
+        bytes_of(input, e),
+        bytes_of(input, f),
+        &mut tray[..room],
+    );
+    after(input, last)
+}
+
+// A record has at least 15 bytes, so there are fewer records than bytes.
+fn make_calls(input: &[u8]) {
+    let n = input.len();
+    let mut left = n;
+    let mut at = 0;
+    while 0 < left {
+        left -= 1;
+        if at < n {
+            at = make_call(input, at);
+        }
+    }
+}
+
+fn main() {
+    let mut input = [0u8; 393216];
+    let n = io::read_full(0, &mut input);
+    make_calls(&input[..n]);
+}
