@@ -59,7 +59,7 @@ link-column-requires c κs =
     let b = there-is (c .before .before .before) in
     let v = c .before .before .before .before .before .before .before .before .before .before .loop .inv .long in
     let w = p .0 .source-within e l .few in
-    rw (a, b) (p .0 .source-within e l, p .0 .target-within e l, omega (arith, p .1))
+    rw (a, b) (p .0 .source-within e l, p .0 .target-within e l, p .0 .target-ordered e l, omega (arith, p .1))
 
 add-e : tie.Need-add-e Inv-loop μ-loop
 add-e c = omega (arith, c .before .before .before .before .before .before .before .before .before .before .before .before .before .before .before .before .before .pre .0 .few, c .before .before .before .before .before .before .before .before .before .before .before .before .loop-test .taken)
