@@ -1,9 +1,6 @@
 use Prim.Native.Nat.{ℕ, _+_, _-_, _*_, _/_, _≤_, _<_}
-use mathlib.Core.Path.{_≡_}
 use mathlib.Core.List.{List}
 use native.Mathlib.Omega.{arith}
-use borrow.Author.Needs.{needs}
-use lib.ListN.{length, getD}
 use Rattle.instance.specs.Decoded.{firstOf, columnOf}
 use Rattle.pi.specs.declared.links.Block.{Block}
 use Rattle.pi.proofs.Bisecting.{Bisected, bisected-start, bisected-low, bisected-high, bisected-hit, bisected-done}

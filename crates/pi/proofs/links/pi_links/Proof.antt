@@ -1,8 +1,7 @@
-use Prim.Native.Nat.{ℕ, _+_, _-_, _*_, _≤_, _<_}
+use Prim.Native.Nat.{_-_}
 use mathlib.Core.Path.{_≡_, ap, _∙_}
 use native.Mathlib.Omega.{arith}
 use borrow.Author.Needs.{needs}
-use lib.ListN.{length, getD}
 use Rattle.instance.specs.Decoded.{rowsOf}
 use Rattle.delta.specs.Stored.{ColumnsStored}
 use Rattle.delta.proofs.Storing.{columns-none, columns-more, columns-done}
