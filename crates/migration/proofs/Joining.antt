@@ -5,7 +5,6 @@ use mathlib.Core.Bool.{Bool, true, false, cond}
 use mathlib.Core.List.{List}
 use native.Mathlib.Omega.{arith}
 use lib.Dec.{leb}
-use lib.ListN.{length}
 use Rattle.meaning.specs.Lists.{sumOf}
 use Rattle.meaning.specs.Formats as formats
 use Rattle.meaning.specs.Formats.{maxRows}

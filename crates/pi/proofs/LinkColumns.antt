@@ -1,13 +1,12 @@
 -- The links that arrays give are those of Pi.
-use Prim.Native.Nat.{ℕ, _+_, _*_, _≤_, _<_}
-use mathlib.Core.Path.{_≡_, refl, sym, ap, ap₂, _∙_}
+use Prim.Native.Nat.{ℕ, _+_, _*_, _<_}
+use mathlib.Core.Path.{_≡_, sym, ap, ap₂, _∙_}
 use mathlib.Core.List.{List, [], _∷_, map}
-use native.Mathlib.Omega.{arith}
 use lib.ListN.{length, getD}
 use Rattle.theory.specs.Numbering.{tabulate}
 use Rattle.meaning.specs.Lists.{upto, position, sameList}
 use Rattle.meaning.specs.Schema.{path, source, target}
-use Rattle.meaning.specs.Pi.{Component, componentAt, noComponent, restrict, pi}
+use Rattle.meaning.specs.Pi.{Component, componentAt, noComponent, pi}
 use Rattle.meaning.proofs.Tabulate.{tabulate-same}
 use Rattle.schema.specs.declared.Schema.{Schema}
 use Rattle.schema.specs.declared.Paths.{Paths}

@@ -1,16 +1,16 @@
 -- The places at an edge's source of its target's components, found by the numbers of their first paths.
 use Prim.Native.Nat.{ℕ, _+_, _*_, _≤_, _<_}
 use mathlib.Core.Path.{_≡_, refl, sym, ap, _∙_, subst}
-use mathlib.Core.Bool.{Bool, true, _&&_}
-use mathlib.Core.List.{List, [], _∷_, _++_, List·Memᴰ}
+use mathlib.Core.Bool.{true}
+use mathlib.Core.List.{List, [], _∷_, _++_}
 use native.Mathlib.Omega.{arith}
 use borrow.Author.Tests.{lt-ltb, eq-eqb}
 use lib.ListN.{length, getD}
-use lib.Dec.{ltb, eqb}
+use lib.Dec.{ltb}
 use Rattle.theory.specs.Schema.{IsPath}
 use Rattle.theory.proofs.Order.{mem-getD}
 use Rattle.meaning.specs.Schema as meaning
-use Rattle.meaning.specs.Schema.{Path, path, source, target, joins, pathsFrom, allPaths}
+use Rattle.meaning.specs.Schema.{Path, path, source, target, joins}
 use Rattle.meaning.specs.Views as views
 use Rattle.meaning.specs.Pi.{componentAt, noComponent}
 use Rattle.meaning.proofs.Tabulate.{and-both}
@@ -19,7 +19,7 @@ use Rattle.agreement.proofs.Paths.{pathCount, numberOf, pathAt, number-in, numb
 use Rattle.schema.specs.declared.Schema.{Schema}
 use Rattle.schema.specs.declared.Paths.{Paths}
 use Rattle.schema.specs.Decoded.{graphOf, schemaOf}
-use Rattle.schema.specs.PathNumbers.{startOf, endOf}
+use Rattle.schema.specs.PathNumbers.{endOf}
 use Rattle.schema.specs.PathWalks.{walkFrom}
 use Rattle.schema.proofs.GraphEdges.{edges-count, source-at, target-at}
 use Rattle.schema.proofs.PathNumbers.{trivial-at, trivial-count}

@@ -1,8 +1,8 @@
 -- The values that arrays give are those of Pi.
-use Prim.Native.Nat.{ℕ, _+_, _*_, _≤_, _<_}
-use mathlib.Core.Path.{_≡_, refl, sym, ap, _∙_}
-use mathlib.Core.Bool.{Bool, true}
-use mathlib.Core.List.{List, [], _∷_, map, List·Memᴰ}
+use Prim.Native.Nat.{ℕ, _+_, _*_, _<_}
+use mathlib.Core.Path.{_≡_, sym, ap, _∙_}
+use mathlib.Core.Bool.{true}
+use mathlib.Core.List.{List, [], map}
 use native.Mathlib.Omega.{arith}
 use borrow.Author.Tests.{eqb-true}
 use lib.ListN.{length, getD}
@@ -10,8 +10,8 @@ use lib.Dec.{eqb}
 use Rattle.theory.specs.Numbering.{tabulate}
 use Rattle.theory.proofs.Numbering.{tabulate-length, tabulate-getD}
 use Rattle.theory.proofs.Order.{mem-getD}
-use Rattle.meaning.specs.Lists.{upto, filter, position}
-use Rattle.meaning.specs.Schema.{Path, Attribute, path, attributeAt}
+use Rattle.meaning.specs.Lists.{upto, filter}
+use Rattle.meaning.specs.Schema.{Attribute, path, attributeAt}
 use Rattle.meaning.specs.Formats as meaning
 use Rattle.meaning.specs.Views.{value}
 use Rattle.meaning.specs.Pi.{isBijective, componentAt, valueAt, pi}

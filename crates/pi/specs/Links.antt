@@ -6,6 +6,7 @@ use mathlib.Core.List.{List, _∷_}
 use lib.ListN.{length, getD}
 use lib.Dec.{ltb}
 use Rattle.theory.specs.Numbering.{tabulate}
+use Rattle.theory.specs.Schema.{Lex}
 use Rattle.meaning.specs.Lists.{upto, sumOf, position, sameList}
 use Rattle.schema.specs.declared.Graph.{Graph}
 use Rattle.schema.specs.declared.Paths.{Paths}
@@ -74,6 +75,16 @@ pub record Within (rows : List ℕ) (b : Block) : Type 0 where
   pub few : b .count ≤ 512
   pub inside : 64 * (b .first + b .count) ≤ length rows
 
+-- and ascend in lexicographic order
+pub record Ordered (rows : List ℕ) (b : Block) : Type 0 where
+  pub each : (x y : ℕ) → x < y → y < b .count → Lex (columnOf rows (64 * (b .first + x)) (b .width)) (columnOf rows (64 * (b .first + y)) (b .width))
+
+-- what a comparison says of a row: 0 equal, 1 before the one that is wanted, else behind it
+pub record Compares (row wanted : List ℕ) (r : ℕ) : Type 0 where
+  pub equal : (r ≡ 0 → row ≡ wanted)
+  pub before : (r ≡ 1 → Lex row wanted)
+  pub behind : ((r ≡ 0 → ⊥) → (r ≡ 1 → ⊥) → Lex wanted row)
+
 -- row x of a table with its numbers taken from the given places, among the rows of another table
 abbrev pub linkPlace : List ℕ → Block → Block → (ℕ → ℕ) → ℕ → ℕ
 linkPlace rows here there place x =
@@ -89,3 +100,4 @@ pub record Linkable (g : Graph) (p : Paths) (k : Components) (counts rows : List
   pub traced : (e : ℕ) → e < g .edges → Traced g p k e
   pub source-within : (e : ℕ) → e < g .edges → Within rows (blockOf counts (k .count) (sourceOf g e))
   pub target-within : (e : ℕ) → e < g .edges → Within rows (blockOf counts (k .count) (targetOf g e))
+  pub target-ordered : (e : ℕ) → e < g .edges → Ordered rows (blockOf counts (k .count) (targetOf g e))

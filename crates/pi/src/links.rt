@@ -11,11 +11,10 @@ use sigma::columns::path_edges;
 ghost use mathlib.Core.Path.{_≡_};
 ghost use Prim.Native.Nat.{_+_, _*_, _≤_, _<_};
 ghost use lib.ListN.{length, getD};
-ghost use Rattle.meaning.specs.Lists.{sameList};
 ghost use Rattle.schema.specs.Table.{Filled};
 ghost use Rattle.instance.specs.Decoded.{firstOf, columnOf, rowsOf};
 ghost use Rattle.delta.specs.Stored.{Stored, ColumnsStored};
-ghost use Rattle.pi.specs.Links.{afterEdge, Extends, placeAfter, targetOf, Traced, entryOf, rowPlace, blockOf, Within, linkPlace, linkRow, Linkable};
+ghost use Rattle.pi.specs.Links.{afterEdge, Extends, placeAfter, targetOf, Traced, entryOf, rowPlace, blockOf, Within, Ordered, Compares, linkPlace, linkRow, Linkable};
 
 // The rows of a table in the list of all rows: the first, how many, and how many numbers each has.
 pub struct Block {
@@ -88,32 +87,44 @@ fn restricted(rows: &[u16], base: usize, n: usize, places: &[usize; 64], m: usiz
     row
 }
 
-// Whether the m numbers from base on are those wanted.
-fn is_row(rows: &[u16], base: usize, wanted: &[u16; 64], m: usize) -> bool
+// The m numbers from base on against those wanted: 0 where they are equal, 1 where they stand before them, 2 where behind.
+fn compare(rows: &[u16], base: usize, wanted: &[u16; 64], m: usize) -> usize
     requires { ⌜ (m ≤ 64) × (base + m ≤ length (now rows)) ⌝ }
-    ensures { λ r. ⌜ r ≡ sameList (firstOf m (now (wanted .entry))) (columnOf (now (rows .entry)) base m) ⌝ }
+    ensures { λ r. ⌜ Compares (columnOf (now (rows .entry)) base m) (firstOf m (now (wanted .entry))) r ⌝ }
 {
     let mut j = 0;
     while j < m {
-        if wanted[j] != rows[base + j] {
-            return false;
+        let x = rows[base + j];
+        let y = wanted[j];
+        if x < y {
+            return 1;
+        }
+        if y < x {
+            return 2;
         }
         j += 1;
     }
-    true
+    0
 }
 
-// The place of the wanted row in a table, or the number of its rows.
+// The place of the wanted row in a table, or the number of its rows: they ascend, so half of them are left out at each step.
 fn find_row(rows: &[u16], b: Block, wanted: &[u16; 64]) -> usize
-    requires { ⌜ Within (now rows) b ⌝ }
+    requires { ⌜ Within (now rows) b × Ordered (now rows) b ⌝ }
     ensures { λ r. ⌜ r ≡ rowPlace (now (rows .entry)) (b .first) (b .count) (firstOf (b .width) (now (wanted .entry))) (b .width) ⌝ }
 {
-    let mut x = 0;
-    while x < b.count {
-        if is_row(rows, 64 * (b.first + x), wanted, b.width) {
+    let mut low = 0;
+    let mut high = b.count;
+    while low < high {
+        let x = (low + high) / 2;
+        let c = compare(rows, 64 * (b.first + x), wanted, b.width);
+        if c == 0 {
             return x;
         }
-        x += 1;
+        if c == 1 {
+            low = x + 1;
+        } else {
+            high = x;
+        }
     }
     b.count
 }
@@ -127,7 +138,7 @@ fn link_column(
     out: &mut [u32],
     base: usize,
 )
-    requires { ⌜ Within (now rows) here × Within (now rows) there × (base + here .count ≤ length (now out)) ⌝ }
+    requires { ⌜ Within (now rows) here × Within (now rows) there × Ordered (now rows) there × (base + here .count ≤ length (now out)) ⌝ }
     ensures { λ _. ⌜ Stored (linkPlace (now (rows .entry)) here there (λ j. getD (now (places .entry)) j 0)) (here .count) base (now (out .entry)) (now (out .exit)) ⌝ }
 {
     let mut x = 0;

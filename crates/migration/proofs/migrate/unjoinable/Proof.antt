@@ -1,4 +1,4 @@
-use mathlib.Core.Path.{_≡_, sym, _∙_}
+use mathlib.Core.Path.{sym, _∙_}
 use Rattle.pi.proofs.ComponentList.{few-are}
 use borrow.Author.Needs.{needs}
 use Rattle.migration.proofs.migrate.unjoinable.Statement.{statement}

@@ -1,11 +1,6 @@
-use Prim.Native.Nat.{ℕ, _+_, _≤_, _<_}
-use mathlib.Core.Path.{_≡_, ap, _∙_}
-use mathlib.Core.List.{List}
+use mathlib.Core.Path.{_∙_}
 use native.Mathlib.Omega.{arith}
 use borrow.Author.Needs.{needs}
-use lib.ListN.{length, getD}
-use Rattle.schema.specs.PathWalks.{walkFrom, WalkIn}
-use Rattle.mapping.specs.Decoded.{imageOf}
 use Rattle.pi.proofs.links.after_edge.Statement.{statement}
 use Rattle.pi.proofs.links.after_edge.Tie as tie
 

@@ -1,47 +1,67 @@
-use Prim.Native.Nat.{ℕ, _+_, _-_, _*_, _≤_, _<_}
-use mathlib.Core.Path.{_≡_, refl, sym, ap, _∙_}
+use Prim.Native.Nat.{ℕ, _+_, _-_, _*_, _/_, _≤_, _<_}
+use mathlib.Core.List.{List}
 use native.Mathlib.Omega.{arith}
-use borrow.Author.Needs.{needs}
-use lib.ListN.{length, getD}
-use Rattle.meaning.specs.Lists.{sameList}
 use Rattle.instance.specs.Decoded.{firstOf, columnOf}
-use Rattle.mapping.proofs.Counting.{Searched, searched-start, searched-more}
-use Rattle.pi.proofs.Places.{found-at, found-none}
+use Rattle.pi.specs.declared.links.Block.{Block}
+use Rattle.pi.proofs.Bisecting.{Bisected, bisected-start, bisected-low, bisected-high, bisected-hit, bisected-done}
 use Rattle.pi.proofs.links.find_row.Statement.{statement}
 use Rattle.pi.proofs.links.find_row.Tie as tie
 
+abbrev rowAt : List ℕ → Block → ℕ → List ℕ
+rowAt rows b y = columnOf rows (64 * (b .first + y)) (b .width)
+
+middle : (low high : ℕ) → low < high → (low ≤ (low + high) / 2) × ((low + high) / 2 < high)
+middle low high h = (omega arith, omega arith)
+
 abbrev Inv-loop : tie.InvT-loop
-Inv-loop rows b wanted x₀ x = Searched (λ y. sameList (firstOf (b .width) wanted) (columnOf rows (64 * (b .first + y)) (b .width))) (λ k. k) (b .count) 0 x
+Inv-loop rows b wanted low₀ high₀ low high = Bisected (rowAt rows b) (firstOf (b .width) wanted) (b .count) low high
 
 abbrev μ-loop : tie.MeasureT-loop
-μ-loop rows b wanted x₀ x = b .count - x
+μ-loop rows b wanted low₀ high₀ low high = high - low
 
 loop-holds : tie.Need-loop-holds Inv-loop μ-loop
-loop-holds c = searched-start _ _ _ _
-
-add-is-row : tie.Need-add-is-row Inv-loop μ-loop
-add-is-row c = let h = c .before .before .before .before .before .pre .inside in omega arith
-
-mul-is-row : tie.Need-mul-is-row Inv-loop μ-loop
-mul-is-row c = let h = c .before .before .before .before .before .pre .inside in omega arith
-
-is-row-requires : tie.Need-is-row-requires Inv-loop μ-loop
-is-row-requires c κs = let h = c .before .before .before .before .before .pre .inside in let w = c .before .before .before .before .before .pre .narrow in (w, omega arith)
-
-returns : tie.Need-returns Inv-loop μ-loop
-returns c = found-at (c .before .before .before .before .before .loop .inv) (c .before .before .before .if1 .taken) (sym (c .before .is-row .ensures) ∙ c .if2 .taken)
+loop-holds c = bisected-start _ _ _
 
 add-x : tie.Need-add-x Inv-loop μ-loop
-add-x c = let h = c .before .before .before .before .before .before .before .pre .few in omega arith
+add-x c = omega (arith, c .before .loop .inv .some, c .before .before .before .pre .0 .few, c .loop-test .taken)
+
+add-compare : tie.Need-add-compare Inv-loop μ-loop
+add-compare c = let p = c .before .before .before .before .pre .0 in omega (arith, p .inside, c .before .before .loop .inv .some, middle (c .before .before .loop .low) (c .before .before .loop .high) (c .before .loop-test .taken) .1)
+
+mul-compare : tie.Need-mul-compare Inv-loop μ-loop
+mul-compare c = let p = c .before .before .before .before .pre .0 in omega (arith, p .inside, c .before .before .loop .inv .some, middle (c .before .before .loop .low) (c .before .before .loop .high) (c .before .loop-test .taken) .1)
+
+compare-requires : tie.Need-compare-requires Inv-loop μ-loop
+compare-requires c κs = let p = c .before .before .before .before .pre .0 in (p .narrow, omega (arith, p .inside, p .narrow, c .before .before .loop .inv .some, middle (c .before .before .loop .low) (c .before .before .loop .high) (c .before .loop-test .taken) .1))
+
+returns : tie.Need-returns Inv-loop μ-loop
+returns c =
+    let z = c .before .before .before .before .before .before .args in
+    bisected-hit (rowAt (z .rows .now) (z .b)) (firstOf (z .b .width) (z .wanted .now)) (c .before .before .before .before .loop .inv) (c .before .before .before .before .before .before .pre .1 .each) (middle (c .before .before .before .before .loop .low) (c .before .before .before .before .loop .high) (c .before .before .before .loop-test .taken) .1) (c .before .compare .ensures .equal (c .if1 .taken))
+
+add-low : tie.Need-add-low Inv-loop μ-loop
+add-low c = omega (arith, c .before .before .before .before .before .before .before .pre .0 .few, c .before .before .before .before .before .loop .inv .some, middle (c .before .before .before .before .before .loop .low) (c .before .before .before .before .before .loop .high) (c .before .before .before .before .loop-test .taken) .1)
 
 loop-less : tie.Need-loop-less Inv-loop μ-loop
-loop-less c = omega arith
+loop-less c = omega (arith, c .before .before .before .before .loop-test .taken, middle (c .before .before .before .before .before .loop .low) (c .before .before .before .before .before .loop .high) (c .before .before .before .before .loop-test .taken) .0)
 
 loop-again : tie.Need-loop-again Inv-loop μ-loop
-loop-again c = searched-more (c .before .before .before .before .before .loop .inv) (c .before .before .before .if1 .taken) (sym (c .before .is-row .ensures) ∙ c .if2 .left)
+loop-again c =
+    let z = c .before .before .before .before .before .before .before .args in
+    bisected-low (rowAt (z .rows .now) (z .b)) (firstOf (z .b .width) (z .wanted .now)) (c .before .before .before .before .before .loop .inv) (c .before .before .before .before .before .before .before .pre .1 .each) (middle (c .before .before .before .before .before .loop .low) (c .before .before .before .before .before .loop .high) (c .before .before .before .before .loop-test .taken) .1) (c .before .before .compare .ensures .before (c .if2 .taken))
+
+loop-less-2 : tie.Need-loop-less-2 Inv-loop μ-loop
+loop-less-2 c = omega (arith, c .before .before .before .before .loop-test .taken, middle (c .before .before .before .before .before .loop .low) (c .before .before .before .before .before .loop .high) (c .before .before .before .before .loop-test .taken) .1)
+
+loop-again-2 : tie.Need-loop-again-2 Inv-loop μ-loop
+loop-again-2 c =
+    let z = c .before .before .before .before .before .before .before .args in
+    bisected-high (rowAt (z .rows .now) (z .b)) (firstOf (z .b .width) (z .wanted .now)) (c .before .before .before .before .before .loop .inv) (c .before .before .before .before .before .before .before .pre .1 .each) (middle (c .before .before .before .before .before .loop .low) (c .before .before .before .before .before .loop .high) (c .before .before .before .before .loop-test .taken) .1) (c .before .before .compare .ensures .behind (c .before .if1 .left) (c .if2 .left))
 
 returns-2 : tie.Need-returns-2 Inv-loop μ-loop
-returns-2 c = found-none (c .before .before .loop .inv) (c .if1 .left)
+returns-2 c =
+    let z = c .before .before .before .args in
+    bisected-done (rowAt (z .rows .now) (z .b)) (firstOf (z .b .width) (z .wanted .now)) (c .before .loop .inv) (c .loop-test .left)
 
 pub find-row-spec : {M : Type 1} → statement M
 find-row-spec =
@@ -50,11 +70,14 @@ find-row-spec =
     Inv-loop
     μ-loop
     loop-holds
-    add-is-row
-    mul-is-row
-    is-row-requires
-    returns
     add-x
+    add-compare
+    mul-compare
+    compare-requires
+    returns
+    add-low
     loop-less
     loop-again
+    loop-less-2
+    loop-again-2
     returns-2)

@@ -1,5 +1,4 @@
-use Prim.Native.Nat.{ℕ, _+_, _-_, _*_, _≤_, _<_}
-use mathlib.Core.Path.{_≡_}
+use Prim.Native.Nat.{_+_, _-_, _<_}
 use native.Mathlib.Omega.{arith}
 use borrow.Author.Needs.{needs}
 use lib.ListN.{length, getD}
@@ -29,28 +28,28 @@ restricted-requires : tie.Need-restricted-requires Inv-loop μ-loop
 restricted-requires c κs = let p = c .before .before .before .before .before .before .pre in (p .1 .narrow, omega (arith, p .0 .inside, p .0 .narrow))
 
 find-row-requires : tie.Need-find-row-requires Inv-loop μ-loop
-find-row-requires c κs = c .before .before .before .before .before .before .before .before .pre .1
+find-row-requires c κs = (c .before .before .before .before .before .before .before .before .pre .1, c .before .before .before .before .before .before .before .before .pre .2)
 
 cast-out : tie.Need-cast-out Inv-loop μ-loop
 cast-out c = omega (arith, link-low (c .before .before .before .before .before .before .before .before .before .args .rows .now) (c .before .before .before .before .before .before .before .before .before .args .here) (c .before .before .before .before .before .before .before .before .before .args .there) (c .before .before .restricted .result) (c .find-row .ensures), c .before .before .before .before .before .before .before .before .before .pre .1 .few)
 
 add-out : tie.Need-add-out Inv-loop μ-loop
-add-out c = let p = c .before .before .before .before .before .before .before .before .before .pre .2 in omega arith
+add-out c = let p = c .before .before .before .before .before .before .before .before .before .pre .3 in omega arith
 
 mul-out : tie.Need-mul-out Inv-loop μ-loop
-mul-out c = let h : c .before .before .before .before .before .before .before .before .before .args .base + c .before .before .before .before .before .before .loop .x < length (c .before .before .before .before .before .before .loop .out) = omega (arith, c .before .before .before .before .before .before .before .before .before .pre .2, c .before .before .before .before .before .before .loop .inv .long) in search needs
+mul-out c = let h : c .before .before .before .before .before .before .before .before .before .args .base + c .before .before .before .before .before .before .loop .x < length (c .before .before .before .before .before .before .loop .out) = omega (arith, c .before .before .before .before .before .before .before .before .before .pre .3, c .before .before .before .before .before .before .loop .inv .long) in search needs
 
 slice-write-out : tie.Need-slice-write-out Inv-loop μ-loop
-slice-write-out c = omega (arith, c .before .before .before .before .before .before .before .before .before .pre .2, c .before .before .before .before .before .before .loop .inv .long)
+slice-write-out c = omega (arith, c .before .before .before .before .before .before .before .before .before .pre .3, c .before .before .before .before .before .before .loop .inv .long)
 
 add-x : tie.Need-add-x Inv-loop μ-loop
-add-x c = let p = c .before .before .before .before .before .before .before .before .before .pre .2 in omega arith
+add-x c = let p = c .before .before .before .before .before .before .before .before .before .pre .3 in omega arith
 
 loop-less : tie.Need-loop-less Inv-loop μ-loop
 loop-less c = omega arith
 
 loop-again : tie.Need-loop-again Inv-loop μ-loop
-loop-again c = stored-more (c .before .before .before .before .before .before .loop .inv) (omega (arith, c .before .before .before .before .before .before .before .before .before .pre .2, c .before .before .before .before .before .before .loop .inv .long)) (found-link (c .before .before .before .before .before .before .before .before .before .args .rows .now) (c .before .before .before .before .before .before .before .before .before .args .here) (c .before .before .before .before .before .before .before .before .before .args .there) (λ j. getD (c .before .before .before .before .before .before .before .before .before .args .places .now) j 0) (c .before .before .before .before .before .before .loop .x) (c .before .before .restricted .ensures) (c .find-row .ensures))
+loop-again c = stored-more (c .before .before .before .before .before .before .loop .inv) (omega (arith, c .before .before .before .before .before .before .before .before .before .pre .3, c .before .before .before .before .before .before .loop .inv .long)) (found-link (c .before .before .before .before .before .before .before .before .before .args .rows .now) (c .before .before .before .before .before .before .before .before .before .args .here) (c .before .before .before .before .before .before .before .before .before .args .there) (λ j. getD (c .before .before .before .before .before .before .before .before .before .args .places .now) j 0) (c .before .before .before .before .before .before .loop .x) (c .before .before .restricted .ensures) (c .find-row .ensures))
 
 same-length : tie.Need-same-length Inv-loop μ-loop
 same-length c = c .before .before .loop .inv .long

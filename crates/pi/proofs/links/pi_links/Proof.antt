@@ -1,8 +1,7 @@
-use Prim.Native.Nat.{ℕ, _+_, _-_, _*_, _≤_, _<_}
+use Prim.Native.Nat.{_-_}
 use mathlib.Core.Path.{_≡_, ap, _∙_}
 use native.Mathlib.Omega.{arith}
 use borrow.Author.Needs.{needs}
-use lib.ListN.{length, getD}
 use Rattle.instance.specs.Decoded.{rowsOf}
 use Rattle.delta.specs.Stored.{ColumnsStored}
 use Rattle.delta.proofs.Storing.{columns-none, columns-more, columns-done}
@@ -59,7 +58,7 @@ link-column-requires c κs =
     let b = there-is (c .before .before .before) in
     let v = c .before .before .before .before .before .before .before .before .before .before .loop .inv .long in
     let w = p .0 .source-within e l .few in
-    rw (a, b) (p .0 .source-within e l, p .0 .target-within e l, omega (arith, p .1))
+    rw (a, b) (p .0 .source-within e l, p .0 .target-within e l, p .0 .target-ordered e l, omega (arith, p .1))
 
 add-e : tie.Need-add-e Inv-loop μ-loop
 add-e c = omega (arith, c .before .before .before .before .before .before .before .before .before .before .before .before .before .before .before .before .before .pre .0 .few, c .before .before .before .before .before .before .before .before .before .before .before .before .loop-test .taken)

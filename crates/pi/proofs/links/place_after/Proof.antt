@@ -1,9 +1,7 @@
-use Prim.Native.Nat.{ℕ, _+_, _-_, _*_, _≤_, _<_}
-use mathlib.Core.Path.{_≡_, refl, sym, ap, _∙_}
+use mathlib.Core.Path.{_≡_, _∙_}
 use native.Mathlib.Omega.{arith}
 use borrow.Author.Needs.{needs}
-use lib.ListN.{length, getD}
-use Rattle.pi.specs.Components.{placeOf}
+use lib.ListN.{length}
 use Rattle.pi.proofs.links.place_after.Statement.{statement}
 use Rattle.pi.proofs.links.place_after.Tie as tie
 

@@ -1,13 +1,13 @@
-use Prim.Native.Nat.{ℕ, _+_, _-_, _*_, _≤_, _<_}
+use Prim.Native.Nat.{_-_, _<_}
 use mathlib.Core.Path.{_≡_, sym, ap, _∙_}
 use native.Mathlib.Omega.{arith}
 use borrow.Author.Needs.{needs}
-use lib.ListN.{length, getD}
+use lib.ListN.{length}
 use Rattle.instance.specs.Decoded.{rowsOf}
 use Rattle.delta.specs.Stored.{ColumnsStored}
 use Rattle.delta.proofs.Storing.{columns-none, columns-more, columns-done}
 use Rattle.pi.specs.Links.{blockOf}
-use Rattle.pi.specs.Values.{homeOf, attributeOver, valueRow}
+use Rattle.pi.specs.Values.{homeOf, valueRow}
 use Rattle.pi.proofs.Reading.{value-stored}
 use Rattle.pi.proofs.values.pi_values.Statement.{statement}
 use Rattle.pi.proofs.values.pi_values.Tie as tie

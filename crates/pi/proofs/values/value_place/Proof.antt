@@ -1,8 +1,7 @@
-use Prim.Native.Nat.{ℕ, _+_, _*_, _≤_, _<_}
 use mathlib.Core.Path.{_≡_, _∙_}
 use native.Mathlib.Omega.{arith}
 use borrow.Author.Needs.{needs}
-use lib.ListN.{length, getD}
+use lib.ListN.{length}
 use Rattle.pi.proofs.values.value_place.Statement.{statement}
 use Rattle.pi.proofs.values.value_place.Tie as tie
 
