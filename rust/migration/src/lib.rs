@@ -47,11 +47,10 @@ mod stand_in;
 /// Who answers each call.
 mod engine {
     pub(crate) use crate::ffi::{
-        check_instance, check_mapping, check_schema, delta_into, same_path, sigma_into,
+        check_instance, check_mapping, check_pushed, check_raw, check_schema, delta_into,
+        pushed_to_raw_into, raw_to_pushed_into, same_path, sigma_into,
     };
-    pub(crate) use crate::stand_in::{
-        check_pushed, check_raw, pi_into, pushed_to_raw_into, raw_to_pushed_into,
-    };
+    pub(crate) use crate::stand_in::pi_into;
 }
 
 pub use checks::{check_instance, check_mapping, check_schema, same_path};
