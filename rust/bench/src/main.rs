@@ -46,38 +46,62 @@ fn measured(who: Who, case: &Case, tray: &mut [u8]) -> bool {
     }
 }
 
-/// The least nanoseconds of a call, over batches of at least a millisecond, for
-/// at least a quarter of a second.  Sheets and tray are those of the call before.
-fn nanoseconds(who: Who, case: &Case) -> f64 {
-    let mut tray = vec![0; case.tray];
-    let mut call = || black_box(measured(who, black_box(case), &mut tray));
-    let mut time = |calls: u32| {
+/// One version of a call, and the least nanoseconds that a call of it took in a
+/// batch of at least a millisecond.
+struct Timed<'a> {
+    who: Who,
+    case: &'a Case,
+    tray: Vec<u8>,
+    calls: u32,
+    least: f64,
+}
+
+impl<'a> Timed<'a> {
+    fn new(who: Who, case: &'a Case) -> Self {
+        let mut timed =
+            Timed { who, case, tray: vec![0; case.tray], calls: 1, least: f64::INFINITY };
+        while timed.batch() < Duration::from_millis(1) {
+            timed.calls *= 2;
+        }
+        timed
+    }
+
+    fn batch(&mut self) -> Duration {
         let start = Instant::now();
-        for _ in 0..calls {
-            call();
+        for _ in 0..self.calls {
+            black_box(measured(self.who, black_box(self.case), &mut self.tray));
         }
         start.elapsed()
-    };
-    let mut calls = 1;
-    while time(calls) < Duration::from_millis(1) {
-        calls *= 2;
     }
-    let (start, mut least) = (Instant::now(), f64::INFINITY);
-    while start.elapsed() < Duration::from_millis(250) {
-        least = least.min(time(calls).as_nanos() as f64 / f64::from(calls));
+
+    /// Batches for some 40 milliseconds.
+    fn round(&mut self) {
+        let start = Instant::now();
+        while start.elapsed() < Duration::from_millis(40) {
+            let each = self.batch().as_nanos() as f64 / f64::from(self.calls);
+            self.least = self.least.min(each);
+        }
     }
-    least
 }
+
+/// The rounds of a case; in each all versions take their turn, so that other
+/// work on the machine disturbs all alike.
+const ROUNDS: usize = 12;
 
 fn table() {
     println!("{:28} {:>8} {:>12} {:>12} {:>12}", "case", "bytes", "library", "plain", "reference");
     for case in inputs() {
+        let version = |(_, who): (_, Who)| answers(who, case.call).then(|| Timed::new(who, &case));
+        let mut versions = ALL.map(version);
+        for _ in 0..ROUNDS {
+            versions.iter_mut().flatten().for_each(Timed::round);
+        }
         let bytes: usize = case.sheets.iter().map(Vec::len).sum();
         print!("{:28} {bytes:>8}", case.name);
-        for (_, who) in ALL {
-            match answers(who, case.call) {
-                true => print!(" {:>9.0} ns", nanoseconds(who, &case)),
-                false => print!(" {:>12}", "-"),
+        for version in versions {
+            match version {
+                Some(timed) => print!(" {:>9.0} ns", timed.least),
+                None => print!(" {:>12}", "-"),
             }
         }
         println!();

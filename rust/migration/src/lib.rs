@@ -29,9 +29,7 @@
 //! # Where the answers come from
 //!
 //! The calls are those of `libmigration.a`, the static library that is built
-//! from the proved code; `build.rs` says where it is looked for.  The calls that
-//! it does not have yet are answered by a stand-in, the reference
-//! implementation, which is not proved: see the module `engine`.
+//! from the proved code; `build.rs` says where it is looked for.
 
 #![warn(missing_docs)]
 #![deny(unsafe_op_in_unsafe_fn)]
@@ -42,17 +40,6 @@ mod ffi;
 mod matchings;
 mod migrations;
 mod refusal;
-mod stand_in;
-
-/// Who answers each call.
-mod engine {
-    pub(crate) use crate::ffi::{
-        check_instance, check_mapping, check_schema, delta_into, same_path, sigma_into,
-    };
-    pub(crate) use crate::stand_in::{
-        check_pushed, check_raw, pi_into, pushed_to_raw_into, raw_to_pushed_into,
-    };
-}
 
 pub use checks::{check_instance, check_mapping, check_schema, same_path};
 pub use matchings::{

@@ -1,6 +1,6 @@
 //! Delta, Sigma and Pi.
 
-use crate::{engine, whole, Refusal, MOST_INSTANCE_BYTES};
+use crate::{ffi, whole, Refusal, MOST_INSTANCE_BYTES};
 
 /// Delta of an instance of T (place 4) along a mapping of S to T: the sheet of
 /// an instance of S.
@@ -40,7 +40,7 @@ pub fn delta_into(
     j: &[u8],
     tray: &mut [u8],
 ) -> Result<usize, Refusal> {
-    engine::delta_into(s, t, f, j, tray)
+    ffi::delta_into(s, t, f, j, tray)
 }
 
 /// Sigma of an instance of S (place 4) along an even mapping of S to T: the
@@ -89,7 +89,7 @@ pub fn sigma_into(
     i: &[u8],
     tray: &mut [u8],
 ) -> Result<usize, Refusal> {
-    engine::sigma_into(s, t, f, i, tray)
+    ffi::sigma_into(s, t, f, i, tray)
 }
 
 /// Pi of an instance of S (place 4) along a mapping of S to T: the sheet of an
@@ -121,5 +121,5 @@ pub fn pi(s: &[u8], t: &[u8], f: &[u8], i: &[u8]) -> Result<Vec<u8>, Refusal> {
 /// # Errors
 /// Those of [`pi`], last 16 at place 0.
 pub fn pi_into(s: &[u8], t: &[u8], f: &[u8], i: &[u8], tray: &mut [u8]) -> Result<usize, Refusal> {
-    engine::pi_into(s, t, f, i, tray)
+    ffi::pi_into(s, t, f, i, tray)
 }

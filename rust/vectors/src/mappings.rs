@@ -30,13 +30,14 @@ impl Mapped {
 }
 
 /// An accepted mapping, even or not, whose attribute mapping is a bijection
-/// unless `loose` attributes are wanted.
+/// unless `loose` attributes are wanted.  One in six is between larger schemas.
 pub fn mapping(random: &mut Random, loose: bool) -> Mapped {
     let [plain_s, plain_t] = [random.once_in(2), random.once_in(2)];
+    let (nodes, more) = if random.once_in(6) { (9, 9) } else { (5, 3) };
     loop {
-        let mut t = if plain_t { graph(random, 4, 5) } else { woven(random, 5, 3) };
+        let mut t = if plain_t { graph(random, 4, 5) } else { woven(random, nodes, more) };
         add_equations(random, &mut t, 2, |_, _| true);
-        let mut s = if plain_s { graph(random, 4, 5) } else { woven(random, 5, 3) };
+        let mut s = if plain_s { graph(random, nodes, 5) } else { woven(random, nodes, more) };
         let nodes: Vec<usize> = (0..s.nodes).map(|_| random.below(t.nodes)).collect();
         let edges = images_of_edges(random, &mut s, &t, &nodes);
         let mut f = Mapping { nodes, edges, attributes: vec![] };
