@@ -64,6 +64,43 @@ uint64_t migration_same_path(const uint8_t *s, size_t s_len, const uint8_t *p, s
 uint64_t migration_delta(const uint8_t *s, size_t s_len, const uint8_t *t, size_t t_len, const uint8_t *f, size_t f_len,
                          const uint8_t *j, size_t j_len, uint8_t *tray, size_t tray_len);
 
+/* Sigma along an even mapping from S to T (places 1 to 3) of an instance of S (place 4): an instance sheet of T, written to the tray. */
+uint64_t migration_sigma(const uint8_t *s, size_t s_len, const uint8_t *t, size_t t_len, const uint8_t *f, size_t f_len,
+                         const uint8_t *i, size_t i_len, uint8_t *tray, size_t tray_len);
+
+/* Pi along a mapping from S to T (places 1 to 3) of an instance of S (place 4): an instance sheet of T, written to the tray. */
+uint64_t migration_pi(const uint8_t *s, size_t s_len, const uint8_t *t, size_t t_len, const uint8_t *f, size_t f_len,
+                      const uint8_t *i, size_t i_len, uint8_t *tray, size_t tray_len);
+
+/* Matchings along an even mapping from S to T (places 1 to 3), of a run over S (place 4) and a book over T (place 5).
+ * The list (place 6) is a matching sheet: for each row of the side's first instance, tables in order, the row of its partner in 9 bits.
+ *   pushed side    from Sigma of the run to the book
+ *   raw side       from the run to Delta of the book
+ * Both sides have as many rows as the run, so their lists have the same byte length, at most MIGRATION_MATCHING_BYTES.
+ * All four calls make the same tests: the sheets at places 1 to 5, then 12, 15 and the list (1, 2, 17); a turning last 16.
+ */
+
+/* Whether the list is a matching of the pushed side. */
+uint64_t migration_check_pushed(const uint8_t *s, size_t s_len, const uint8_t *t, size_t t_len, const uint8_t *f, size_t f_len,
+                                const uint8_t *run, size_t run_len, const uint8_t *book, size_t book_len,
+                                const uint8_t *list, size_t list_len);
+
+/* Whether the list is a matching of the raw side. */
+uint64_t migration_check_raw(const uint8_t *s, size_t s_len, const uint8_t *t, size_t t_len, const uint8_t *f, size_t f_len,
+                             const uint8_t *run, size_t run_len, const uint8_t *book, size_t book_len,
+                             const uint8_t *list, size_t list_len);
+
+/* Turns a matching of the pushed side into the one of the raw side in which each row of the run meets the same row of the book: a matching
+ * sheet, written to the tray. */
+uint64_t migration_pushed_to_raw(const uint8_t *s, size_t s_len, const uint8_t *t, size_t t_len, const uint8_t *f, size_t f_len,
+                                 const uint8_t *run, size_t run_len, const uint8_t *book, size_t book_len,
+                                 const uint8_t *list, size_t list_len, uint8_t *tray, size_t tray_len);
+
+/* The way back: turns a matching of the raw side into the one of the pushed side. Turned there and back, a list is the same byte for byte. */
+uint64_t migration_raw_to_pushed(const uint8_t *s, size_t s_len, const uint8_t *t, size_t t_len, const uint8_t *f, size_t f_len,
+                                 const uint8_t *run, size_t run_len, const uint8_t *book, size_t book_len,
+                                 const uint8_t *list, size_t list_len, uint8_t *tray, size_t tray_len);
+
 #ifdef __cplusplus
 }
 #endif

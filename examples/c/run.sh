@@ -1,10 +1,12 @@
 #!/usr/bin/env bash
-# Builds the C example against the static library, runs it, and compares what it prints.
+# Builds the C examples against the static library, runs them, and compares what they print.
 set -euo pipefail
 cd "$(dirname "${BASH_SOURCE[0]}")/../.."
-rt staticlib migration
+.ci/archive
 out=target/examples
 mkdir -p "$out"
-cc -std=c99 -Wall -Wextra -Werror -O2 -Iinclude examples/c/pull_base.c target/staticlib/libmigration.a -o "$out/pull_base"
-"$out/pull_base" | diff -u examples/c/pull_base.expected -
-echo "C example: as expected"
+for name in push_base pull_base; do
+    cc -std=c99 -Wall -Wextra -Werror -O2 -Iinclude "examples/c/$name.c" target/staticlib/libmigration.a -o "$out/$name"
+    "$out/$name" | diff -u "examples/c/$name.expected" -
+done
+echo "C examples: as expected"

@@ -87,7 +87,7 @@ module _ (t : Schema) (A : Sound t) (i : declared.Instance) (links values : List
         let a = all-at (linkTest (t .graph .source) (t .graph .target) (i .counts) links) (t .graph .edges) (λ k. k) (sym links-test ∙ in-range) e l in
         ltb-true _ _ (all-at (λ x. ltb x (rowsOf (t .graph .target) (i .counts) e)) (rowsOf (t .graph .source) (i .counts) e) (λ k. getD links (512 * e + k) 0) a r h)
 
-    link-is : (e : ℕ) → e < t .graph .edges → (r : ℕ) → r < rowsOf (t .graph .source) (i .counts) e → linkIn links e r ≡ Rattle.meaning.specs.Views.link I e r
+    pub link-is : (e : ℕ) → e < t .graph .edges → (r : ℕ) → r < rowsOf (t .graph .source) (i .counts) e → linkIn links e r ≡ Rattle.meaning.specs.Views.link I e r
     link-is e l r h =
         sym (ap (λ (xs : List ℕ). getD xs r 0) (tabulate-getD (t .graph .edges) (λ k. columnOf links (512 * k) (rowsOf (t .graph .source) (i .counts) k)) [] e l)
         ∙ tabulate-getD (rowsOf (t .graph .source) (i .counts) e) (λ k. getD links (512 * e + k) 0) 0 r h)

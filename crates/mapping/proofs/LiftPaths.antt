@@ -59,7 +59,7 @@ module _ {A : Type 0} (l : List A) (d : A) where
   by-place = ext-getD d l (map (λ i. getD l i d) (upto (length l))) (sym (length-map (upto (length l)) (λ i. getD l i d) ∙ upto-length (length l))) (λ i h.
       sym (getD-map (λ i. getD l i d) (upto (length l)) 0 d i (rw (upto-length (length l)) h) ∙ ap (λ (j : ℕ). getD l j d) (upto-getD (length l) i 0 h)))
 
-  filter-place : (f : A → Bool) → filter f l ≡ map (λ i. getD l i d) (filter (λ i. f (getD l i d)) (upto (length l)))
+  pub filter-place : (f : A → Bool) → filter f l ≡ map (λ i. getD l i d) (filter (λ i. f (getD l i d)) (upto (length l)))
   filter-place f = ap (filter f) by-place ∙ filter-map f (λ i. getD l i d) (upto (length l))
 
 headOr-below : (n d : ℕ) (f : ℕ → Bool) → d < n → headOr d (filter f (upto n)) < n
@@ -82,7 +82,7 @@ module _ (S : meaning.Schema) (f : WellFormed S) (c : ℕ) (h : c < S .graph .no
       go q m (inl a) = inl a
       go q m (inr a) = inr (a .0, inr (k p (List·Memᴰ·head refl) ∙ sym (k q (List·Memᴰ·tail m)), a .1))
 
-  paths-from : pathsFrom (S .graph) c ≡ filter (λ p. eqb (p .start) c) (allPaths (S .graph))
+  pub paths-from : pathsFrom (S .graph) c ≡ filter (λ p. eqb (p .start) c) (allPaths (S .graph))
   paths-from = sorted-one Before before-asymmetric (pathsFrom (S .graph) c) (filter (λ p. eqb (p .start) c) (allPaths (S .graph)))
       (sorted-from (pathsFrom (S .graph) c) from-start (pathsFrom-sorted (S .graph) c)) (sorted-filter Before (λ p. eqb (p .start) c) (allPaths (S .graph)) (allPaths-sorted (S .graph)))
       (λ p m. let k = pathsFrom-each S f c h p .0 m in filter-in (λ p. eqb (p .start) c) (allPaths (S .graph)) (allPaths-each S f p .1 (subst (λ (n : ℕ). IsPath (views.schemaOf S) n (p .edges)) (sym (k .0)) (k .1))) (eq-eqb (p .start) c (k .0)))

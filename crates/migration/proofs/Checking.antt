@@ -2,7 +2,6 @@
 use Prim.Native.Nat.{ℕ}
 use mathlib.Core.Path.{_≡_}
 use mathlib.Core.List.{List}
-use Rattle.meaning.specs.Schema as meaning
 use Rattle.meaning.specs.PathEquality.{equal}
 use Rattle.meaning.specs.Judge.{judgeSchema, judgePath, judgeMapping, judgeInstance}
 use Rattle.meaning.specs.Calls.{accepted, _>>=_, at, Migration, checkSchema, migration, checkInstance, samePath}

@@ -3,6 +3,12 @@ pub mod Checking
 pub mod Trays
 pub mod Migrating
 pub mod Pushing
+pub mod Joining
 pub mod Opening
 pub mod Partners
 pub mod Texts
+pub mod Validity
+pub mod Judging
+pub mod Grouping
+pub mod Turning
+pub mod Demand3

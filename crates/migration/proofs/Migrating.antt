@@ -36,7 +36,7 @@ size J = refusal (cond (leb (sumOf (J .counts)) maxRows) 0 15) 0
 pub sized : (J : formats.Instance) → outcomeOf (size J) J ≡ ensureFits J
 sized J = yields (size J) tt (tested (leb (sumOf (J .counts)) maxRows) 15 (λ e. omega arith)) (λ _. J)
 
-few-rows : (n : ℕ) → _≡_ {A = ℕ} (cond (leb n maxRows) 0 15) 0 → n ≤ maxRows
+pub few-rows : (n : ℕ) → _≡_ {A = ℕ} (cond (leb n maxRows) 0 15) 0 → n ≤ maxRows
 few-rows n e = go (leb n maxRows) refl e
   where
     go : (b : Bool) → leb n maxRows ≡ b → _≡_ {A = ℕ} (cond b 0 15) 0 → n ≤ maxRows

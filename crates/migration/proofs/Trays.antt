@@ -11,6 +11,7 @@ use Rattle.meaning.specs.Calls.{Outcome, refused, accepted, sheetOf, Lent, writ
 use Rattle.instance.specs.Decoded.{tablesOf}
 use Rattle.instance.specs.Written.{Written, sheetBytes}
 use Rattle.instance.proofs.Writing.{sheet-length}
+use Rattle.migration.specs.declared.Refusal.{Refusal}
 use Rattle.migration.specs.declared.results.Migrated.{Migrated}
 use Rattle.migration.specs.Answers.{outcomeOf}
 use Rattle.migration.specs.Migrated.{migratedOf}
@@ -25,6 +26,13 @@ module _ (bytes tray : List ℕ) where
 
   pub tray-small : length tray < length bytes → lent (refused 16 0) tray ≡ written tray bytes
   tray-small h = rw (lt-leb (length bytes) (length tray) h)
+
+module _ (r : Refusal) (bytes tray : List ℕ) where
+  pub outcome-written : r .number ≡ 0 → written tray bytes ≡ inTray tray (outcomeOf r bytes)
+  outcome-written e = ap (inTray tray) (sym (no-refusal r bytes e))
+
+  pub outcome-refused : (r .number ≡ 0 → ⊥) → lent (refused (r .number) (r .place)) tray ≡ inTray tray (outcomeOf r bytes)
+  outcome-refused e = ap (inTray tray) (sym (some-refusal r bytes e))
 
 module _ (m : Migrated) (links values tray : List ℕ) where
   abbrev sheet : List ℕ

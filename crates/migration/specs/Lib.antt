@@ -5,3 +5,5 @@ pub mod Migrated
 pub mod Sides
 pub mod Matched
 pub mod Printed
+pub mod Turnable
+pub mod Demand3

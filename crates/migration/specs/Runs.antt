@@ -5,12 +5,15 @@ use mathlib.Core.List.{List}
 use Rattle.meaning.specs.Formats as formats
 use Rattle.meaning.specs.Judge.{judgeInstance}
 use Rattle.meaning.specs.Sigma.{sigma}
+use Rattle.meaning.specs.Pi.{pi}
 use Rattle.meaning.specs.Calls as meaning
 use Rattle.meaning.specs.Calls.{Outcome, accepted, _>>=_, at, ensureFits, Migration, migration}
 use Rattle.mapping.specs.Judged.{Schemas}
 use Rattle.instance.specs.Decoded.{tablesOf, Limits}
 use Rattle.instance.specs.Tested.{Accepted}
 use Rattle.sigma.specs.Pushed.{Pushable}
+use Rattle.pi.specs.declared.components.Components.{Components}
+use Rattle.pi.specs.Joining.{Joinable}
 use Rattle.migration.specs.declared.runs.Run.{Run}
 use Rattle.migration.specs.Answers.{outcomeOf}
 use Rattle.migration.specs.Opened.{migrationOf, Ready}
@@ -32,6 +35,12 @@ pushedRun y = do
   P ← ensureFits (sigma (y .m .S) (y .m .T) (y .m .F) (y .run))
   accepted (record { schema = y .m .T; tables = P })
 
+-- Pi of the run, and its size
+abbrev pub joinedRun : RunInput → Outcome meaning.Migrated
+joinedRun y = do
+  P ← ensureFits (pi (y .m .S) (y .m .T) (y .m .F) (y .run))
+  accepted (record { schema = y .m .T; tables = P })
+
 -- ---- in working arrays: the run's links and values
 
 abbrev pub runInputOf : Run → List ℕ → List ℕ → RunInput
@@ -47,3 +56,7 @@ pub record RunSays (x : Run) (links values : List ℕ) (X : Outcome RunInput) : 
 -- what Sigma relies on
 abbrev pub PushableRun : Run → List ℕ → List ℕ → Type 0
 PushableRun x = Pushable (x .opened .source) (x .opened .target) (x .opened .«source_paths») (x .opened .«target_paths») (x .opened .mapping) (x .run)
+
+-- what Pi relies on
+abbrev pub JoinableRun : Run → Components → List ℕ → List ℕ → Type 0
+JoinableRun x = Joinable (x .opened .source) (x .opened .target) (x .opened .«target_paths») (x .opened .mapping) (x .run)

@@ -1,7 +1,9 @@
-// The checks of schemas, mappings and instances, and the path question.
+// The checks of schemas, mappings, instances and matchings, and the path question.
 use crate::Equality;
 use crate::Refusal;
 use crate::Verdict;
+use crate::matchings::Side;
+use crate::matchings::match_side;
 use crate::open::open;
 use instance::Instance;
 use instance::judge_instance;
@@ -9,7 +11,7 @@ use schema::equal;
 use schema::judge_path;
 use schema::judge_schema;
 ghost use mathlib.Core.Path.{_≡_};
-ghost use Rattle.meaning.specs.Calls.{checkSchema, checkMapping, checkInstance, samePath};
+ghost use Rattle.meaning.specs.Calls.{checkSchema, checkMapping, checkInstance, samePath, checkPushed, checkRaw};
 ghost use Rattle.migration.specs.Answers.{outcomeOf, verdictOf, equalityOf};
 
 fn verdict(refusal: Refusal) -> Verdict
@@ -78,4 +80,27 @@ pub fn same_path(s: &[u8], p: &[u8], q: &[u8]) -> Equality
         return Equality::Unequal;
     }
     Equality::Refused(refusal)
+}
+
+// Whether list is a matching of the pushed side: from Sigma of the instance run of s along the mapping f from s to t to the instance book of t.
+// Refuses as check_raw does.
+pub fn check_pushed(s: &[u8], t: &[u8], f: &[u8], run: &[u8], book: &[u8], list: &[u8]) -> Verdict
+    ensures { λ r. ⌜ verdictOf r ≡ checkPushed (now (s .entry)) (now (t .entry)) (now (f .entry)) (now (run .entry)) (now (book .entry)) (now (list .entry)) ⌝ }
+{
+    let mut partners = [0u32; Instance::ROWS];
+    let matched = match_side(Side::Pushed, s, t, f, run, book, list, &mut partners);
+    let refusal = matched.refusal;
+    verdict(refusal)
+}
+
+// Whether list is a matching of the raw side: from the instance run of s to Delta of the instance book of t along the mapping f from s to t.
+// Refuses with 1 to 6 at the places of s and t, with 1, 2, 7 and 8 at that of f, with 1, 2, 3, 9, 10 and 11 at those of run and book, with 12 and
+// 15 at place 0, and with 1, 2 and 17 at that of list.
+pub fn check_raw(s: &[u8], t: &[u8], f: &[u8], run: &[u8], book: &[u8], list: &[u8]) -> Verdict
+    ensures { λ r. ⌜ verdictOf r ≡ checkRaw (now (s .entry)) (now (t .entry)) (now (f .entry)) (now (run .entry)) (now (book .entry)) (now (list .entry)) ⌝ }
+{
+    let mut partners = [0u32; Instance::ROWS];
+    let matched = match_side(Side::Raw, s, t, f, run, book, list, &mut partners);
+    let refusal = matched.refusal;
+    verdict(refusal)
 }

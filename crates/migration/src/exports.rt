@@ -6,12 +6,17 @@ use crate::Verdict;
 use crate::Written;
 use crate::checks::check_instance;
 use crate::checks::check_mapping;
+use crate::checks::check_pushed;
+use crate::checks::check_raw;
 use crate::checks::check_schema;
 use crate::checks::same_path;
 use crate::migrate::delta;
+use crate::migrate::pi;
 use crate::migrate::sigma;
+use crate::turnings::pushed_to_raw;
+use crate::turnings::raw_to_pushed;
 ghost use mathlib.Core.Path.{_≡_};
-ghost use Rattle.meaning.specs.Calls.{refused, checkSchema, checkMapping, checkInstance, samePath, deltaTables, sigmaTables, sheetOf, inTray};
+ghost use Rattle.meaning.specs.Calls.{refused, checkSchema, checkMapping, checkInstance, samePath, deltaTables, sigmaTables, piTables, sheetOf, checkPushed, checkRaw, pushedToRaw, rawToPushed, inTray};
 ghost use Rattle.migration.specs.Answers.{verdictOf, equalityOf, writtenOf, encoded, checked, answered, returned};
 
 fn refusal_number(refusal: Refusal) -> u64
@@ -88,4 +93,69 @@ pub extern "C" fn migration_sigma(s: &[u8], t: &[u8], f: &[u8], i: &[u8], tray: 
     ensures { λ r. ⌜ (r, now (tray .exit)) ≡ returned (inTray (now (tray .entry)) (sheetOf (sigmaTables (now (s .entry)) (now (t .entry)) (now (f .entry)) (now (i .entry))))) ⌝ }
 {
     written_number(sigma(s, t, f, i, &mut *tray))
+}
+
+#[no_mangle]
+pub extern "C" fn migration_pi(s: &[u8], t: &[u8], f: &[u8], i: &[u8], tray: &mut [u8]) -> u64
+    ensures { λ r. ⌜ (r, now (tray .exit)) ≡ returned (inTray (now (tray .entry)) (sheetOf (piTables (now (s .entry)) (now (t .entry)) (now (f .entry)) (now (i .entry))))) ⌝ }
+{
+    written_number(pi(s, t, f, i, &mut *tray))
+}
+
+#[no_mangle]
+pub extern "C" fn migration_check_pushed(
+    s: &[u8],
+    t: &[u8],
+    f: &[u8],
+    run: &[u8],
+    book: &[u8],
+    list: &[u8],
+) -> u64
+    ensures { λ r. ⌜ r ≡ encoded (checked (checkPushed (now (s .entry)) (now (t .entry)) (now (f .entry)) (now (run .entry)) (now (book .entry)) (now (list .entry)))) ⌝ }
+{
+    verdict_number(check_pushed(s, t, f, run, book, list))
+}
+
+#[no_mangle]
+pub extern "C" fn migration_check_raw(
+    s: &[u8],
+    t: &[u8],
+    f: &[u8],
+    run: &[u8],
+    book: &[u8],
+    list: &[u8],
+) -> u64
+    ensures { λ r. ⌜ r ≡ encoded (checked (checkRaw (now (s .entry)) (now (t .entry)) (now (f .entry)) (now (run .entry)) (now (book .entry)) (now (list .entry)))) ⌝ }
+{
+    verdict_number(check_raw(s, t, f, run, book, list))
+}
+
+#[no_mangle]
+pub extern "C" fn migration_pushed_to_raw(
+    s: &[u8],
+    t: &[u8],
+    f: &[u8],
+    run: &[u8],
+    book: &[u8],
+    list: &[u8],
+    tray: &mut [u8],
+) -> u64
+    ensures { λ r. ⌜ (r, now (tray .exit)) ≡ returned (inTray (now (tray .entry)) (pushedToRaw (now (s .entry)) (now (t .entry)) (now (f .entry)) (now (run .entry)) (now (book .entry)) (now (list .entry)))) ⌝ }
+{
+    written_number(pushed_to_raw(s, t, f, run, book, list, &mut *tray))
+}
+
+#[no_mangle]
+pub extern "C" fn migration_raw_to_pushed(
+    s: &[u8],
+    t: &[u8],
+    f: &[u8],
+    run: &[u8],
+    book: &[u8],
+    list: &[u8],
+    tray: &mut [u8],
+) -> u64
+    ensures { λ r. ⌜ (r, now (tray .exit)) ≡ returned (inTray (now (tray .entry)) (rawToPushed (now (s .entry)) (now (t .entry)) (now (f .entry)) (now (run .entry)) (now (book .entry)) (now (list .entry)))) ⌝ }
+{
+    written_number(raw_to_pushed(s, t, f, run, book, list, &mut *tray))
 }

@@ -1,7 +1,7 @@
 // Delta, Sigma, Pi and matchings on lent sheets. Every call takes sheets of any length and content, and answers with a result or with the
 // first refusal that applies.
 mod checks;
-mod exports;
+pub mod exports;
 mod matchings;
 mod migrate;
 mod open;
@@ -9,14 +9,20 @@ mod printing;
 mod results;
 mod runs;
 mod sides;
+mod turnings;
 
 pub use checks::check_instance;
 pub use checks::check_mapping;
+pub use checks::check_pushed;
+pub use checks::check_raw;
 pub use checks::check_schema;
 pub use checks::same_path;
 pub use migrate::delta;
+pub use migrate::pi;
 pub use migrate::sigma;
 pub use printing::push;
+pub use turnings::pushed_to_raw;
+pub use turnings::raw_to_pushed;
 ghost use mathlib.Core.Path.{_≡_};
 ghost use Rattle.migration.specs.Answers.{orNext};
 

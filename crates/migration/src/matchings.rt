@@ -1,15 +1,24 @@
-// The checkers and the turnings of matchings.
+// The tests of matchings: the judge of a matching sheet, and all tests of a checker or a turning before the tray.
+use crate::Refusal;
+use crate::results::overfull;
+use crate::sides::Sides;
+use crate::sides::open_sides;
 use instance::Instance;
 use instance::decode::total;
 use instance::matching::read_matching;
 use matching::is_matching;
 use schema::Schema;
 ghost use mathlib.Core.Path.{_≡_};
+ghost use Prim.Native.Nat.{_≤_};
+ghost use lib.ListN.{length};
 ghost use Rattle.meaning.specs.Matching.{judgeMatching};
 ghost use Rattle.schema.specs.Decoded.{schemaOf};
-ghost use Rattle.instance.specs.Decoded.{tablesOf};
-ghost use Rattle.matching.specs.Compared.{Comparable};
-ghost use Rattle.migration.specs.Matched.{judgedMatching};
+ghost use Rattle.instance.specs.Decoded.{tablesOf, Room};
+ghost use Rattle.matching.specs.Compared.{partnersOf, Comparable};
+ghost use Rattle.migration.specs.Answers.{outcomeOf};
+ghost use Rattle.migration.specs.Sides.{inputsOf, Migratable};
+ghost use Rattle.migration.specs.Matched.{judgedMatching, pushedList, rawList, sideList};
+ghost use Rattle.migration.specs.Turnable.{matchedSide, Matches};
 
 // Reads the partners of A's rows in B: 0, or the number with which the sheet is sent back.
 fn judge_matching(
@@ -37,4 +46,210 @@ fn judge_matching(
         return 17;
     }
     fault
+}
+
+// The pushed side of accepted inputs: 15, or the matching sheet's refusal; where there is none, the partners of Sigma's rows stand in list.
+fn judge_pushed(
+    x: Sides,
+    run_links: &[u32],
+    run_values: &[u32],
+    book_links: &[u32],
+    book_values: &[u32],
+    sheet: &[u8],
+    list: &mut [u32],
+) -> Refusal
+    requires { ⌜ Migratable x (now «run_links») (now «run_values») (now «book_links») (now «book_values») × Room (now «run_links») (now «run_values») × Room (now «book_links») (now «book_values») × (512 ≤ length (now list)) ⌝ }
+    ensures { λ r. ⌜ outcomeOf r (partnersOf (x .opened .source) (x .run) (now (list .exit))) ≡ pushedList (inputsOf x (now («run_links» .entry)) (now («run_values» .entry)) (now («book_links» .entry)) (now («book_values» .entry))) (now (sheet .entry)) ⌝ }
+{
+    let mut links = [0u32; Instance::LINKS];
+    let mut values = [0u32; Instance::VALUES];
+    let opened = x.opened;
+    let source = opened.source;
+    let target = opened.target;
+    let mapping = opened.mapping;
+    let book = x.book;
+    let size = overfull(source, delta::delta_counts(source, target, mapping, book));
+    if size == 0 {
+        let source_paths = opened.source_paths;
+        let target_paths = opened.target_paths;
+        let run = x.run;
+        let pushed = sigma::sigma(
+            source,
+            target,
+            source_paths,
+            target_paths,
+            mapping,
+            run,
+            run_links,
+            run_values,
+            &mut links,
+            &mut values,
+        );
+        return Refusal {
+            number: judge_matching(
+                target,
+                pushed,
+                &links,
+                &values,
+                book,
+                book_links,
+                book_values,
+                sheet,
+                &mut *list,
+            ),
+            place: 6,
+        };
+    }
+    Refusal {
+        number: size,
+        place: 0,
+    }
+}
+
+// The raw side of accepted inputs: 15, or the matching sheet's refusal; where there is none, the partners of the run's rows stand in list.
+fn judge_raw(
+    x: Sides,
+    run_links: &[u32],
+    run_values: &[u32],
+    book_links: &[u32],
+    book_values: &[u32],
+    sheet: &[u8],
+    list: &mut [u32],
+) -> Refusal
+    requires { ⌜ Migratable x (now «run_links») (now «run_values») (now «book_links») (now «book_values») × Room (now «run_links») (now «run_values») × Room (now «book_links») (now «book_values») × (512 ≤ length (now list)) ⌝ }
+    ensures { λ r. ⌜ outcomeOf r (partnersOf (x .opened .source) (x .run) (now (list .exit))) ≡ rawList (inputsOf x (now («run_links» .entry)) (now («run_values» .entry)) (now («book_links» .entry)) (now («book_values» .entry))) (now (sheet .entry)) ⌝ }
+{
+    let mut links = [0u32; Instance::LINKS];
+    let mut values = [0u32; Instance::VALUES];
+    let opened = x.opened;
+    let source = opened.source;
+    let target = opened.target;
+    let mapping = opened.mapping;
+    let book = x.book;
+    let pulled = delta::delta(
+        source,
+        target,
+        mapping,
+        book,
+        book_links,
+        book_values,
+        &mut links,
+        &mut values,
+    );
+    let size = overfull(source, pulled);
+    if size == 0 {
+        let run = x.run;
+        return Refusal {
+            number: judge_matching(
+                source,
+                run,
+                run_links,
+                run_values,
+                pulled,
+                &links,
+                &values,
+                sheet,
+                &mut *list,
+            ),
+            place: 6,
+        };
+    }
+    Refusal {
+        number: size,
+        place: 0,
+    }
+}
+
+// From Sigma of the run to the book, or from the run to Delta of the book.
+pub enum Side {
+    Pushed,
+    Raw,
+}
+
+fn judge_side(
+    side: Side,
+    x: Sides,
+    run_links: &[u32],
+    run_values: &[u32],
+    book_links: &[u32],
+    book_values: &[u32],
+    sheet: &[u8],
+    list: &mut [u32],
+) -> Refusal
+    requires { ⌜ Migratable x (now «run_links») (now «run_values») (now «book_links») (now «book_values») × Room (now «run_links») (now «run_values») × Room (now «book_links») (now «book_values») × (512 ≤ length (now list)) ⌝ }
+    ensures { λ r. ⌜ outcomeOf r (partnersOf (x .opened .source) (x .run) (now (list .exit))) ≡ sideList side (inputsOf x (now («run_links» .entry)) (now («run_values» .entry)) (now («book_links» .entry)) (now («book_values» .entry))) (now (sheet .entry)) ⌝ }
+{
+    match side {
+        Side::Pushed => judge_pushed(
+            x,
+            run_links,
+            run_values,
+            book_links,
+            book_values,
+            sheet,
+            &mut *list,
+        ),
+        Side::Raw => judge_raw(
+            x,
+            run_links,
+            run_values,
+            book_links,
+            book_values,
+            sheet,
+            &mut *list,
+        ),
+    }
+}
+
+// The tests of a side, up to the matching sheet k; where they are passed, the partners stand in list.
+pub(crate) fn match_side(
+    side: Side,
+    s: &[u8],
+    t: &[u8],
+    f: &[u8],
+    i: &[u8],
+    j: &[u8],
+    k: &[u8],
+    list: &mut [u32],
+) -> Sides
+    requires { ⌜ 512 ≤ length (now list) ⌝ }
+    ensures { λ r. ⌜ Matches r (now (list .exit)) (matchedSide side (now (s .entry)) (now (t .entry)) (now (f .entry)) (now (i .entry)) (now (j .entry)) (now (k .entry))) ⌝ }
+{
+    let mut run_links = [0u32; Instance::LINKS];
+    let mut run_values = [0u32; Instance::VALUES];
+    let mut book_links = [0u32; Instance::LINKS];
+    let mut book_values = [0u32; Instance::VALUES];
+    let x = open_sides(
+        s,
+        t,
+        f,
+        i,
+        j,
+        &mut run_links,
+        &mut run_values,
+        &mut book_links,
+        &mut book_values,
+    );
+    let first = x.refusal;
+    if first.number == 0 {
+        let opened = x.opened;
+        let run = x.run;
+        let book = x.book;
+        return Sides {
+            refusal: judge_side(
+                side,
+                x,
+                &run_links,
+                &run_values,
+                &book_links,
+                &book_values,
+                k,
+                &mut *list,
+            ),
+            opened: opened,
+            run: run,
+            book: book,
+        };
+    }
+    x
 }

@@ -3,7 +3,7 @@ use crate::migrate::sigma_tables;
 use crate::results::Migrated;
 use instance::Instance;
 use text::Text;
-use text::framing::Part;
+use text::framing::bytes_of;
 use text::framing::sheets_of;
 use text::write_refusal;
 use text::write_tables;
@@ -11,21 +11,10 @@ ghost use mathlib.Core.Path.{_≡_};
 ghost use Prim.Native.Nat.{_≤_};
 ghost use lib.ListN.{length};
 ghost use Rattle.meaning.specs.Program as program;
-ghost use Rattle.text.specs.Framed.{Lies, partOf};
 ghost use Rattle.text.specs.Written.{maxTextBytes, Printable, Written};
 ghost use Rattle.migration.specs.Answers.{outcomeOf};
 ghost use Rattle.migration.specs.Migrated.{migratedOf};
 ghost use Rattle.migration.specs.Printed.{Prints};
-
-// The bytes of a part.
-fn part<'a>(input: &'a [u8], p: Part) -> &'a [u8]
-    requires { ⌜ Lies (now input) p ⌝ }
-    ensures { λ r. ⌜ now r ≡ partOf (now (input .entry)) p ⌝ }
-{
-    let start = p.start;
-    let end = p.end;
-    &input[start..end]
-}
 
 // Writes the text of a migrated instance, or of the refusal.
 fn print(m: Migrated, links: &[u32], values: &[u32], out: &mut [u8]) -> Text
@@ -53,10 +42,10 @@ pub fn push(input: &[u8], out: &mut [u8]) -> usize
     let mut values = [0u32; Instance::VALUES];
     let sheets = sheets_of(input);
     let migrated = sigma_tables(
-        part(input, sheets.s),
-        part(input, sheets.t),
-        part(input, sheets.mapping),
-        part(input, sheets.run),
+        bytes_of(input, sheets.s),
+        bytes_of(input, sheets.t),
+        bytes_of(input, sheets.mapping),
+        bytes_of(input, sheets.run),
         &mut links,
         &mut values,
     );

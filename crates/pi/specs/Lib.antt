@@ -1,6 +1,8 @@
-pub mod Search
-pub mod Conflict
-pub mod Candidates
-pub mod Narrowing
-pub mod Listing
-pub mod Steps
+pub mod Components
+pub mod Given
+pub mod Gathering
+pub mod Rules
+pub mod Families
+pub mod Links
+pub mod Values
+pub mod Joining

@@ -4,12 +4,22 @@ ghost use mathlib.Core.Path.{_≡_};
 ghost use Prim.Native.Nat.{_+_, _≤_};
 ghost use lib.ListN.{length, drop};
 ghost use Rattle.meaning.specs.Program.{announced};
-ghost use Rattle.text.specs.Framed.{SheetFound, SheetsFound};
+ghost use Rattle.text.specs.Framed.{Lies, partOf, SheetFound, SheetsFound};
 
 // The bytes from start up to, not including, end.
 pub struct Part {
     pub start: usize,
     pub end: usize,
+}
+
+// The bytes of a part.
+pub fn bytes_of<'a>(input: &'a [u8], p: Part) -> &'a [u8]
+    requires { ⌜ Lies (now input) p ⌝ }
+    ensures { λ r. ⌜ now r ≡ partOf (now (input .entry)) p ⌝ }
+{
+    let start = p.start;
+    let end = p.end;
+    &input[start..end]
 }
 
 // The sheets S, T, mapping and run.

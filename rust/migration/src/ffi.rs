@@ -12,6 +12,9 @@
 //! exclusively for the time of the call, and sheets are only read.  The library
 //! keeps no pointer and has no state, so calls may run side by side.
 
+// Until the library has every call.
+#![allow(dead_code)]
+
 use crate::{answer, Refusal};
 
 extern "C" {

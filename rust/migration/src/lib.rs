@@ -28,31 +28,31 @@
 //!
 //! # Where the answers come from
 //!
-//! With the feature `archive` the calls are those of `libmigration.a`, the static
-//! library that is built from the proved code, in the folder that the
-//! environment variable `MIGRATION_ARCHIVE_DIR` names at build time.  Without it
-//! they are answered by a stand-in, the reference implementation, which is not
-//! proved.
+//! The calls are those of `libmigration.a`, the static library that is built
+//! from the proved code; `build.rs` says where it is looked for.  The calls that
+//! it does not have yet are answered by a stand-in, the reference
+//! implementation, which is not proved: see the module `engine`.
 
 #![warn(missing_docs)]
-#![cfg_attr(not(feature = "archive"), forbid(unsafe_code))]
 #![deny(unsafe_op_in_unsafe_fn)]
 
-#[cfg(any(feature = "archive", test))]
 mod answer;
 mod checks;
-#[cfg(feature = "archive")]
 mod ffi;
 mod matchings;
 mod migrations;
 mod refusal;
-#[cfg(not(feature = "archive"))]
 mod stand_in;
 
-#[cfg(feature = "archive")]
-use ffi as engine;
-#[cfg(not(feature = "archive"))]
-use stand_in as engine;
+/// Who answers each call.
+mod engine {
+    pub(crate) use crate::ffi::{
+        check_instance, check_mapping, check_schema, delta_into, same_path, sigma_into,
+    };
+    pub(crate) use crate::stand_in::{
+        check_pushed, check_raw, pi_into, pushed_to_raw_into, raw_to_pushed_into,
+    };
+}
 
 pub use checks::{check_instance, check_mapping, check_schema, same_path};
 pub use matchings::{

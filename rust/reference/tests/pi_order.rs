@@ -2,10 +2,11 @@
 
 mod common;
 
-use common::generate::{graph as random_graph, Random};
 use common::*;
 use reference::plain::*;
 use reference::*;
+use vectors::random::Random;
+use vectors::schemas::graph as random_graph;
 
 /// Pi's result, decoded.
 fn gathered(s: &Schema, t: &Schema, f: &Mapping, i: &Instance) -> Instance {
@@ -61,12 +62,6 @@ fn attributes_are_read_at_the_trivial_path() {
     let result = gathered(&s, &t, &f, &i);
     assert_eq!(result.rows, [3]);
     assert_eq!(result.values, [[21, 20, 22], [10, 11, 11]]);
-}
-
-/// The mapping of a schema without attributes to itself.
-fn identity(s: &Schema) -> Mapping {
-    let edges = (0..s.edges.len()).map(|edge| vec![edge]).collect();
-    Mapping { nodes: (0..s.nodes).collect(), edges, attributes: vec![] }
 }
 
 #[test]

@@ -2,10 +2,10 @@
 
 mod common;
 
-use common::generate::Random;
 use common::*;
 use reference::plain::*;
 use reference::*;
+use vectors::random::Random;
 
 #[test]
 fn every_shorter_base_sheet_is_cut() {

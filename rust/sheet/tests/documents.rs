@@ -68,6 +68,41 @@ fn the_examples_readmes_show_what_the_command_does() {
     assert!(run_page(&example("book").join("README.md"), "book") >= 8);
 }
 
+/// The README's commands, from the repository's folder: building the tool, one
+/// command of it, and showing a file that it wrote.
+#[test]
+fn the_readme_shows_what_the_command_does() {
+    let root = documentation().join("../..");
+    let folder = Folder::new("page-readme");
+    fs::create_dir_all(folder.join("examples/base")).unwrap();
+    common::copy(&example("base"), &folder.join("examples/base"));
+    let readme = fs::read_to_string(root.join("README.md")).unwrap();
+    let block = blocks(&readme).into_iter().find(|(sort, _)| sort == "console");
+    let (_, lines) = block.expect("a console block");
+    let commands: Vec<&String> = lines.iter().filter(|line| line.starts_with("$ ")).collect();
+    let [build, sheet, cat] = commands.as_slice() else { panic!("three commands") };
+    let make = "$ cargo build --quiet --release --manifest-path rust/Cargo.toml -p sheet";
+    assert_eq!(*build, make);
+    folder.sheet(sheet.strip_prefix("$ rust/target/release/sheet ").unwrap()).silent();
+    let shown = folder.read(cat.strip_prefix("$ cat ").unwrap());
+    let printed: String = lines[3..].iter().map(|line| format!("{line}\n")).collect();
+    assert_eq!(String::from_utf8(shown).unwrap(), printed);
+}
+
+/// The picture in the documentation is made from this text, by Graphviz:
+/// `dot -Tsvg base-mapping.dot -o base-mapping.svg`.
+#[test]
+fn the_stored_drawing_is_todays() {
+    let folder = Folder::with_example("drawing", "base");
+    let drawn = folder.sheet(&format!("draw mapping {}", common::MAPPED));
+    let stored = fs::read_to_string(documentation().join("base-mapping.dot")).unwrap();
+    drawn.printed(&stored);
+    let picture = fs::read_to_string(documentation().join("base-mapping.svg")).unwrap();
+    for text in ["Dent", "Loss", "Anomaly", "station → Anomaly.station", "→ Anomaly.joint"] {
+        assert!(picture.contains(text), "{text}");
+    }
+}
+
 #[test]
 fn the_schemas_and_mappings_shown_are_read() {
     let read = |name: &str| fs::read_to_string(documentation().join(name)).unwrap();

@@ -1,31 +1,7 @@
 //! Schemas, mappings, instances and matchings at random, with fixed seeds.
 
 use sheet::{all_paths, Column, Equation, Instance, Link, Mapping, Matching, Path, Schema};
-
-/// Marsaglia's xorshift generator.
-pub struct Random(u64);
-
-impl Random {
-    pub fn seeded(seed: u64) -> Self {
-        Random(seed.wrapping_mul(0x9E37_79B9_7F4A_7C15) | 1)
-    }
-
-    pub fn bits(&mut self) -> u64 {
-        self.0 ^= self.0 << 13;
-        self.0 ^= self.0 >> 7;
-        self.0 ^= self.0 << 17;
-        self.0
-    }
-
-    /// A number below `bound`, which is not 0.
-    pub fn below(&mut self, bound: usize) -> usize {
-        ((self.bits() >> 16) % bound as u64) as usize
-    }
-
-    pub fn one_of<'a, T>(&mut self, list: &'a [T]) -> &'a T {
-        &list[self.below(list.len())]
-    }
-}
+pub use vectors::random::Random;
 
 /// A name that none of `taken` is, whatever the case of letters.
 fn name(random: &mut Random, taken: &mut Vec<String>) -> String {

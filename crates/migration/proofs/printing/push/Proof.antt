@@ -16,17 +16,17 @@ returns c =
 sheets-of-requires : tie.Need-sheets-of-requires
 sheets-of-requires c κs = search needs
 
-part-requires : tie.Need-part-requires
-part-requires c κs = search needs
+bytes-of-requires : tie.Need-bytes-of-requires
+bytes-of-requires c κs = search needs
 
-part-requires-2 : tie.Need-part-requires-2
-part-requires-2 c κs = search needs
+bytes-of-requires-2 : tie.Need-bytes-of-requires-2
+bytes-of-requires-2 c κs = search needs
 
-part-requires-3 : tie.Need-part-requires-3
-part-requires-3 c κs = search needs
+bytes-of-requires-3 : tie.Need-bytes-of-requires-3
+bytes-of-requires-3 c κs = search needs
 
-part-requires-4 : tie.Need-part-requires-4
-part-requires-4 c κs = search needs
+bytes-of-requires-4 : tie.Need-bytes-of-requires-4
+bytes-of-requires-4 c κs = search needs
 
 slice-aggregate-sigma-tables : tie.Need-slice-aggregate-sigma-tables
 slice-aggregate-sigma-tables c = search needs
@@ -45,7 +45,7 @@ slice-aggregate-print-2 c = search needs
 
 print-requires : tie.Need-print-requires
 print-requires c κs =
-    (printable (c .before .before .before .before .before .before .before .before .before .before .before .part .result .now) (c .before .before .before .before .before .before .before .before .before .before .part2 .result .now) (c .before .before .before .before .before .before .before .before .before .part3 .result .now) (c .before .before .before .before .before .before .before .before .part4 .result .now) (c .before .before .before .before .before .sigma-tables .ensures) (search needs), let w = c .before .before .before .before .before .before .before .before .before .before .before .before .before .if1 .left in omega arith)
+    (printable (c .before .before .before .before .before .before .before .before .before .before .before .bytes-of .result .now) (c .before .before .before .before .before .before .before .before .before .before .bytes-of2 .result .now) (c .before .before .before .before .before .before .before .before .before .bytes-of3 .result .now) (c .before .before .before .before .before .before .before .before .bytes-of4 .result .now) (c .before .before .before .before .before .sigma-tables .ensures) (search needs), let w = c .before .before .before .before .before .before .before .before .before .before .before .before .before .if1 .left in omega arith)
 
 same-length : tie.Need-same-length
 same-length c = search needs
@@ -54,8 +54,8 @@ returns-2 : tie.Need-returns-2
 returns-2 c =
     let F = c .before .before .before .before .before .before .before .before .before .before .before .before .before .before .before .sheets-of .ensures in
     let z = c .before .before .before .before .before .before .before .before .before .before .before .before .before .before .before .before .before .before .before .args in
-    prints (c .before .before .before .before .before .before .before .before .before .before .before .before .before .before .part .result .now) (c .before .before .before .before .before .before .before .before .before .before .before .before .before .part2 .result .now) (c .before .before .before .before .before .before .before .before .before .before .before .before .part3 .result .now) (c .before .before .before .before .before .before .before .before .before .before .before .part4 .result .now) (c .before .before .before .before .before .before .before .before .sigma-tables .ensures) (F .says ∙ ap₂ (λ (x y : List ℕ × List ℕ). shown (sigmaTables (x .0) (x .1) (y .0) (y .1)))
-    (ap₂ (λ (a b : List ℕ). (a, b)) (sym (c .before .before .before .before .before .before .before .before .before .before .before .before .before .before .part .ensures)) (sym (c .before .before .before .before .before .before .before .before .before .before .before .before .before .part2 .ensures))) (ap₂ (λ (a b : List ℕ). (a, b)) (sym (c .before .before .before .before .before .before .before .before .before .before .before .before .part3 .ensures)) (sym (c .before .before .before .before .before .before .before .before .before .before .before .part4 .ensures))))
+    prints (c .before .before .before .before .before .before .before .before .before .before .before .before .before .before .bytes-of .result .now) (c .before .before .before .before .before .before .before .before .before .before .before .before .before .bytes-of2 .result .now) (c .before .before .before .before .before .before .before .before .before .before .before .before .bytes-of3 .result .now) (c .before .before .before .before .before .before .before .before .before .before .before .bytes-of4 .result .now) (c .before .before .before .before .before .before .before .before .sigma-tables .ensures) (F .says ∙ ap₂ (λ (x y : List ℕ × List ℕ). shown (sigmaTables (x .0) (x .1) (y .0) (y .1)))
+    (ap₂ (λ (a b : List ℕ). (a, b)) (sym (c .before .before .before .before .before .before .before .before .before .before .before .before .before .before .bytes-of .ensures)) (sym (c .before .before .before .before .before .before .before .before .before .before .before .before .before .bytes-of2 .ensures))) (ap₂ (λ (a b : List ℕ). (a, b)) (sym (c .before .before .before .before .before .before .before .before .before .before .before .before .bytes-of3 .ensures)) (sym (c .before .before .before .before .before .before .before .before .before .before .before .bytes-of4 .ensures))))
     (let w = c .before .before .before .before .before .before .before .before .before .before .before .before .before .before .before .before .if1 .left in omega arith) (c .before .before .print .ensures)
 
 pub push-spec : {M : Type 1} → statement M
@@ -64,10 +64,10 @@ push-spec =
     (tie.spec
     returns
     sheets-of-requires
-    part-requires
-    part-requires-2
-    part-requires-3
-    part-requires-4
+    bytes-of-requires
+    bytes-of-requires-2
+    bytes-of-requires-3
+    bytes-of-requires-4
     slice-aggregate-sigma-tables
     slice-aggregate-sigma-tables-2
     sigma-tables-requires

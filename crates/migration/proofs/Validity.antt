@@ -1,0 +1,114 @@
+-- Accepted sheets in working arrays are valid, as `agreement` has it; so Sigma of the run has as many rows as the run, and 15 never arises for it.
+use Prim.Native.Nat.{ℕ, _*_, _+_, _<_}
+use mathlib.Core.Path.{_≡_, sym, ap, _∙_}
+use mathlib.Core.Bool.{true}
+use mathlib.Core.List.{List, []}
+use lib.ListN.{length, getD}
+use Rattle.theory.specs.Mapping.{Even}
+use Rattle.theory.proofs.Numbering.{tabulate-length, tabulate-getD}
+use Rattle.meaning.specs.Lists.{sumOf}
+use Rattle.meaning.specs.Schema as meaning
+use Rattle.meaning.specs.Schema.{Attribute}
+use Rattle.meaning.specs.Formats as formats
+use Rattle.meaning.specs.Formats.{kinds}
+use Rattle.meaning.specs.Views.{count}
+use Rattle.meaning.specs.Views as views
+use Rattle.meaning.specs.Judge.{linksInRange}
+use Rattle.meaning.specs.Sigma.{sigma}
+use Rattle.meaning.proofs.Facts.{Shaped}
+use Rattle.agreement.proofs.Instances.{instance-is, links-pass}
+use Rattle.agreement.proofs.Mappings.{mapping-is}
+use Rattle.agreement.proofs.Valid.{ValidMapping, ValidInstance}
+use Rattle.agreement.proofs.Evenness.{even-iff}
+use Rattle.agreement.proofs.Sigma.{sigma-total, sigma-valid}
+use Rattle.schema.specs.declared.Schema.{Schema}
+use Rattle.schema.specs.Decoded.{schemaOf}
+use Rattle.schema.specs.Judged.{Sound}
+use Rattle.schema.proofs.GraphEdges.{edges-count, source-at}
+use Rattle.instance.specs.declared.Instance.{Instance}
+use Rattle.instance.specs.Decoded.{rowsOf, columnOf, columnsOf, tablesOf, Limits}
+use Rattle.instance.specs.Tested.{Accepted}
+use Rattle.instance.proofs.SoundSchema.{source-in, home-in}
+use Rattle.mapping.specs.Decoded.{mappingOf}
+use Rattle.mapping.proofs.Viewing.{attributes-count, attribute-is}
+use Rattle.mapping.proofs.ImageTable.{formed}
+use Rattle.migration.specs.declared.open.Opened.{Opened}
+use Rattle.migration.specs.declared.sides.Sides.{Sides}
+use Rattle.migration.specs.Opened.{Ready}
+use Rattle.migration.specs.Sides.{Migratable}
+
+-- ---- an instance
+
+module _ {t : Schema} (A : Sound t) (i : Instance) (links values : List ℕ) where
+  abbrev I : formats.Instance
+  I = tablesOf t i links values
+
+  count-at : (c : ℕ) → c < t .graph .nodes → count I c ≡ getD (i .counts) c 0
+  count-at c l = tabulate-getD (t .graph .nodes) (λ k. getD (i .counts) k 0) 0 c l
+
+  column-length : (n : ℕ) (rows : ℕ → ℕ) (l : List ℕ) (k : ℕ) → k < n → length (getD (columnsOf n rows l) k []) ≡ rows k
+  column-length n rows l k h =
+      ap length (tabulate-getD n (λ j. columnOf l (512 * j) (rows j)) [] k h) ∙ tabulate-length (rows k) (λ r. getD l (512 * k + r) 0)
+
+  shaped : Shaped (schemaOf t) I
+  shaped = record {
+    tables = tabulate-length (t .graph .nodes) (λ k. getD (i .counts) k 0);
+    edges = tabulate-length (t .graph .edges) (λ k. columnOf links (512 * k) (rowsOf (t .graph .source) (i .counts) k)) ∙ sym (edges-count (t .graph .edges) (t .graph .source) (t .graph .target));
+    attributes = tabulate-length (t .attributes) (λ k. columnOf values (512 * k) (rowsOf (t .node) (i .counts) k)) ∙ sym (attributes-count t);
+    links = λ e l.
+        let h : e < t .graph .edges = rw (edges-count (t .graph .edges) (t .graph .source) (t .graph .target)) at l in
+        column-length (t .graph .edges) (rowsOf (t .graph .source) (i .counts)) links e h
+        ∙ sym (ap (count I) (source-at (t .graph .edges) (t .graph .source) (t .graph .target) e h) ∙ count-at (getD (t .graph .source) e 0) (source-in t A e h));
+    values = λ a l.
+        let h : a < t .attributes = rw (attributes-count t) at l in
+        column-length (t .attributes) (rowsOf (t .node) (i .counts)) values a h
+        ∙ sym (ap (λ (x : Attribute). count I (x .node)) (attribute-is t a h) ∙ count-at (getD (t .node) a 0) (home-in t A a h));
+  }
+
+  pub accepted-valid : Limits t i → Accepted t i links values → ValidInstance (schemaOf t) I
+  accepted-valid L H = record { shaped = shaped; is = instance-is kinds (schemaOf t) I shaped (H .links-in) (H .values-in) (H .obeys); few-rows = L .rows }
+
+-- ---- a mapping
+
+pub ready-valid : {o : Opened} → Ready o → ValidMapping (schemaOf (o .source)) (schemaOf (o .target)) (mappingOf (o .source) (o .mapping))
+ready-valid {o} R = record {
+  S-formed = formed (R .schemas .source);
+  T-formed = formed (R .schemas .target);
+  attributes = tabulate-length (o .source .attributes) (λ k. getD (o .mapping .attribute) k 0) ∙ sym (attributes-count (o .source));
+  is =
+      mapping-is (schemaOf (o .source)) (schemaOf (o .target)) (mappingOf (o .source) (o .mapping)) (formed (R .schemas .source)) (formed (R .schemas .target))
+      (tabulate-length (o .source .graph .nodes) (λ k. getD (o .mapping .node) k 0)) (R .mapping .fits) (R .mapping .keeps);
+}
+
+-- ---- the run and its Sigma
+
+module _ {x : Sides} {links values links′ values′ : List ℕ} (M : Migratable x links values links′ values′) where
+  abbrev S : meaning.Schema
+  S = schemaOf (x .opened .source)
+
+  abbrev T : meaning.Schema
+  T = schemaOf (x .opened .target)
+
+  abbrev F : formats.Mapping
+  F = mappingOf (x .opened .source) (x .opened .mapping)
+
+  abbrev run : formats.Instance
+  run = tablesOf (x .opened .source) (x .run) links values
+
+  mapping-valid : ValidMapping S T F
+  mapping-valid = ready-valid (M .ready)
+
+  mapping-even : Even (views.mappingOf S T F)
+  mapping-even = even-iff mapping-valid .0 (M .is-even)
+
+  run-valid : ValidInstance S run
+  run-valid = accepted-valid (M .ready .schemas .source) (x .run) links values (M .run-limits) (M .run)
+
+  pub pushed-valid : ValidInstance T (sigma S T F run)
+  pushed-valid = sigma-valid mapping-valid mapping-even run-valid
+
+  pub pushed-rows : sumOf (sigma S T F run .counts) ≡ sumOf (run .counts)
+  pushed-rows = sigma-total mapping-valid mapping-even run-valid
+
+  pub pushed-links-in : linksInRange T (sigma S T F run) ≡ true
+  pushed-links-in = links-pass kinds T (sigma S T F run) (pushed-valid .shaped) (pushed-valid .is)

@@ -1,0 +1,28 @@
+use native.Mathlib.Omega.{arith}
+use Rattle.meaning.specs.Formats.{matchingSheet}
+use Rattle.instance.specs.Decoded.{firstOf}
+use Rattle.instance.proofs.Writing.{matching-length}
+use Rattle.migration.proofs.Trays.{tray-written, tray-small}
+use borrow.Author.Needs.{needs}
+use Rattle.migration.proofs.turnings.write_partners.Statement.{statement}
+use Rattle.migration.proofs.turnings.write_partners.Tie as tie
+
+matching-length-requires : tie.Need-matching-length-requires
+matching-length-requires c κs = search needs
+
+write-matching-requires : tie.Need-write-matching-requires
+write-matching-requires c κs = search needs
+
+same-length : tie.Need-same-length
+same-length c = search needs
+
+returns : tie.Need-returns
+returns c = let a = c .before .before .before .before .before .before .before .before .args in tray-written (matchingSheet (firstOf (a .n) (a .list .now))) (a .tray .now) (omega (arith, matching-length (a .list .now) (a .n), c .before .before .before .before .before .matching-length .ensures)) (c .before .before .write-matching .ensures)
+
+returns-2 : tie.Need-returns-2
+returns-2 c = let a = c .before .before .before .before .args in tray-small (matchingSheet (firstOf (a .n) (a .list .now))) (a .tray .now) (omega (arith, matching-length (a .list .now) (a .n), c .before .matching-length .ensures))
+
+pub write-partners-spec : {M : Type 1} → statement M
+write-partners-spec =
+    tie.close
+    (tie.spec matching-length-requires write-matching-requires same-length returns returns-2)

@@ -1,0 +1,166 @@
+// Links of Pi's tables: a row of an edge's source, restricted to the components of its target, is found among the target's rows.
+use crate::components::Components;
+use crate::components::place;
+use instance::decode;
+use schema::Graph;
+use schema::Paths;
+use schema::numbers::index;
+use schema::numbers::wide;
+use schema::walk::walk;
+use sigma::columns::path_edges;
+ghost use mathlib.Core.Path.{_≡_};
+ghost use Prim.Native.Nat.{_+_, _*_, _≤_, _<_};
+ghost use lib.ListN.{length, getD};
+ghost use Rattle.meaning.specs.Lists.{sameList};
+ghost use Rattle.schema.specs.Table.{Filled};
+ghost use Rattle.instance.specs.Decoded.{firstOf, columnOf, rowsOf};
+ghost use Rattle.delta.specs.Stored.{Stored, ColumnsStored};
+ghost use Rattle.pi.specs.Links.{afterEdge, Extends, placeAfter, targetOf, Traced, entryOf, rowPlace, blockOf, Within, linkPlace, linkRow, Linkable};
+
+// The rows of a table in the list of all rows: the first, how many, and how many numbers each has.
+pub struct Block {
+    pub first: usize,
+    pub count: usize,
+    pub width: usize,
+}
+
+// The number of edge e, from node d on, followed by path i.
+fn after_edge(p: Paths, d: usize, e: usize, i: usize) -> usize
+    requires { ⌜ Extends p d e i ⌝ }
+    ensures { λ r. ⌜ r ≡ afterEdge p d e i ⌝ }
+{
+    let image = path_edges(p, i);
+    let x = index(p.first[d]) + wide(p.rank[e]);
+    walk(&p.first, &p.rank, x, &image.edges, image.length)
+}
+
+// The place at edge e's source of component j of its target.
+fn place_after(g: Graph, p: Paths, k: Components, e: usize, j: usize) -> usize
+    requires { ⌜ Traced g p k e × (j < getD (k .count) (targetOf g e) 0) ⌝ }
+    ensures { λ r. ⌜ r ≡ placeAfter g p k e j ⌝ }
+{
+    let d = wide(g.source[e]);
+    let at = 64 * wide(g.target[e]) + j;
+    let x = after_edge(p, d, e, wide(k.first[at]));
+    let n = k.count[d];
+    let c = k.node[at];
+    let class = p.class[x];
+    place(&k.node, &k.first, 64 * d, n, c, class)
+}
+
+// The places at edge e's source of all components of its target.
+fn places_after(g: Graph, p: Paths, k: Components, e: usize) -> [usize; 64]
+    requires { ⌜ Traced g p k e ⌝ }
+    ensures { λ r. ⌜ Filled 64 (placeAfter g p k e) (getD (k .count) (targetOf g e) 0) r ⌝ }
+{
+    let n = k.count[wide(g.target[e])];
+    let mut places = [0usize; 64];
+    let mut j = 0;
+    while j < n {
+        places[j] = place_after(g, p, k, e, j);
+        j += 1;
+    }
+    places
+}
+
+// Entry p of the n numbers from base on, or 0 past their end.
+pub fn entry(rows: &[u16], base: usize, n: usize, p: usize) -> u16
+    requires { ⌜ base + n ≤ length (now rows) ⌝ }
+    ensures { λ r. ⌜ r ≡ entryOf (now (rows .entry)) base n p ⌝ }
+{
+    if p < n {
+        return rows[base + p];
+    }
+    0
+}
+
+// The entries at m places.
+fn restricted(rows: &[u16], base: usize, n: usize, places: &[usize; 64], m: usize) -> [u16; 64]
+    requires { ⌜ (m ≤ 64) × (base + n ≤ length (now rows)) ⌝ }
+    ensures { λ r. ⌜ Filled 64 (λ j. entryOf (now (rows .entry)) base n (getD (now (places .entry)) j 0)) m r ⌝ }
+{
+    let mut row = [0u16; 64];
+    let mut j = 0;
+    while j < m {
+        row[j] = entry(rows, base, n, places[j]);
+        j += 1;
+    }
+    row
+}
+
+// Whether the m numbers from base on are those wanted.
+fn is_row(rows: &[u16], base: usize, wanted: &[u16; 64], m: usize) -> bool
+    requires { ⌜ (m ≤ 64) × (base + m ≤ length (now rows)) ⌝ }
+    ensures { λ r. ⌜ r ≡ sameList (firstOf m (now (wanted .entry))) (columnOf (now (rows .entry)) base m) ⌝ }
+{
+    let mut j = 0;
+    while j < m {
+        if wanted[j] != rows[base + j] {
+            return false;
+        }
+        j += 1;
+    }
+    true
+}
+
+// The place of the wanted row in a table, or the number of its rows.
+fn find_row(rows: &[u16], b: Block, wanted: &[u16; 64]) -> usize
+    requires { ⌜ Within (now rows) b ⌝ }
+    ensures { λ r. ⌜ r ≡ rowPlace (now (rows .entry)) (b .first) (b .count) (firstOf (b .width) (now (wanted .entry))) (b .width) ⌝ }
+{
+    let mut x = 0;
+    while x < b.count {
+        if is_row(rows, 64 * (b.first + x), wanted, b.width) {
+            return x;
+        }
+        x += 1;
+    }
+    b.count
+}
+
+// For each row of a table, the place of its restriction in another.
+fn link_column(
+    rows: &[u16],
+    here: Block,
+    there: Block,
+    places: &[usize; 64],
+    out: &mut [u32],
+    base: usize,
+)
+    requires { ⌜ Within (now rows) here × Within (now rows) there × (base + here .count ≤ length (now out)) ⌝ }
+    ensures { λ _. ⌜ Stored (linkPlace (now (rows .entry)) here there (λ j. getD (now (places .entry)) j 0)) (here .count) base (now (out .entry)) (now (out .exit)) ⌝ }
+{
+    let mut x = 0;
+    while x < here.count {
+        let row = restricted(rows, 64 * (here.first + x), here.width, places, there.width);
+        out[base + x] = find_row(rows, there, &row) as u32;
+        x += 1;
+    }
+}
+
+// The rows of the table at d.
+pub fn block_at(counts: &[u32], k: Components, d: usize) -> Block
+    requires { ⌜ (d < 16) × (length (now counts) ≡ 16) ⌝ }
+    ensures { λ r. ⌜ r ≡ blockOf (now (counts .entry)) (k .count) d ⌝ }
+{
+    Block {
+        first: decode::total(counts, d),
+        count: decode::wide(counts[d]),
+        width: k.count[d],
+    }
+}
+
+// The links along all edges.
+pub fn pi_links(g: Graph, p: Paths, k: Components, counts: &[u32], rows: &[u16], out: &mut [u32])
+    requires { ⌜ Linkable g p k (now counts) (now rows) × (512 * g .edges ≤ length (now out)) ⌝ }
+    ensures { λ _. ⌜ ColumnsStored (g .edges) (rowsOf (g .source) (now (counts .entry))) (linkRow g p k (now (counts .entry)) (now (rows .entry))) (now (out .entry)) (now (out .exit)) ⌝ }
+{
+    let mut e = 0;
+    while e < g.edges {
+        let here = block_at(counts, k, wide(g.source[e]));
+        let there = block_at(counts, k, wide(g.target[e]));
+        let places = places_after(g, p, k, e);
+        link_column(rows, here, there, &places, &mut *out, 512 * e);
+        e += 1;
+    }
+}

@@ -1,0 +1,122 @@
+//! The proved library, called through its wrapper, against the reference: the
+//! answer, the whole tray, and every lent byte afterwards.
+
+#![forbid(unsafe_code)]
+#![warn(missing_docs)]
+
+pub mod program;
+
+use migration::*;
+use std::fmt;
+use vectors::answer::{reference_outcome, Outcome, FILLING};
+use vectors::call::{Call, Case};
+use vectors::limits::{limits, longest};
+use vectors::papers::papers;
+use vectors::random::Random;
+use vectors::report::Report;
+use vectors::stream::{for_each_refusal, Chance};
+
+/// So many bytes on each side of a tray are not lent and must stay.
+const MARGIN: usize = 32;
+
+/// A case that the library and the reference answer differently, or after which
+/// a byte has changed that should not.
+#[derive(Debug)]
+pub struct Difference {
+    /// The case.
+    pub case: Case,
+    /// What the reference answers.
+    pub expected: Outcome,
+    /// What the library answers, or what it changed.
+    pub found: Result<Outcome, &'static str>,
+}
+
+impl fmt::Display for Difference {
+    fn fmt(&self, out: &mut fmt::Formatter<'_>) -> fmt::Result {
+        writeln!(out, "{} ({})", self.case.call.name(), self.case.name)?;
+        for (place, sheet) in self.case.sheets.iter().enumerate() {
+            writeln!(out, "sheet {}: {}", place + 1, hex(sheet))?;
+        }
+        writeln!(out, "tray: {} bytes", self.case.tray)?;
+        let told = |outcome: &Outcome| format!("{:?}, tray {}", outcome.answer, hex(&outcome.tray));
+        writeln!(out, "expected: {}", told(&self.expected))?;
+        match &self.found {
+            Ok(outcome) => writeln!(out, "found: {}", told(outcome)),
+            Err(changed) => writeln!(out, "changed: {changed}"),
+        }
+    }
+}
+
+fn hex(bytes: &[u8]) -> String {
+    bytes.iter().map(|byte| format!("{byte:02X}")).collect::<Vec<_>>().join(" ")
+}
+
+/// Every kind of case: the fixed ones, those made for a refusal each, then by
+/// chance; `count` in all, or as many as are fixed where that is more.
+pub fn cases(seed: u64, count: usize) -> impl Iterator<Item = Case> {
+    let mut random = Random::seeded(seed);
+    let made = for_each_refusal(&mut random).into_iter().map(|made| made.case);
+    let first: Vec<Case> =
+        papers().into_iter().chain(limits()).chain(longest()).chain(made).collect();
+    let more = count.saturating_sub(first.len());
+    first.into_iter().chain(Chance::seeded(seed).take(more))
+}
+
+/// Tries the cases; how they ended, or the first that differs.
+pub fn compare(cases: impl Iterator<Item = Case>) -> Result<Report, Box<Difference>> {
+    let mut report = Report::default();
+    for case in cases {
+        let expected = reference_outcome(&case);
+        let found = library_outcome(&case);
+        if found.as_ref() != Ok(&expected) {
+            return Err(Box::new(Difference { case, expected, found }));
+        }
+        report.add(case.call, &expected);
+    }
+    Ok(report)
+}
+
+/// What the library answers, or what it changed besides the tray.
+pub fn library_outcome(case: &Case) -> Result<Outcome, &'static str> {
+    let sheets = case.sheets.clone();
+    let mut around = vec![FILLING; MARGIN + case.tray + MARGIN];
+    let tray = &mut around[MARGIN..MARGIN + case.tray];
+    let answer = call(case.call, &sheets, tray);
+    let tray = tray.to_vec();
+    if sheets != case.sheets {
+        return Err("a sheet");
+    }
+    let beside = around[..MARGIN].iter().chain(&around[MARGIN + case.tray..]);
+    if beside.into_iter().any(|&byte| byte != FILLING) {
+        return Err("a byte beside the tray");
+    }
+    let told =
+        |refusal: Refusal| reference::Refusal { number: refusal.number, place: refusal.place };
+    Ok(Outcome { answer: answer.map_err(told), tray })
+}
+
+/// The call through the wrapper.
+pub fn call(call: Call, sheets: &[Vec<u8>], tray: &mut [u8]) -> Result<usize, Refusal> {
+    match (call, sheets) {
+        (Call::CheckSchema, [s]) => check_schema(s).map(|()| 0),
+        (Call::CheckMapping, [s, t, f]) => check_mapping(s, t, f).map(|()| 0),
+        (Call::CheckInstance, [s, i]) => check_instance(s, i).map(|()| 0),
+        (Call::SamePath, [s, p, q]) => same_path(s, p, q).map(usize::from),
+        (Call::Delta, [s, t, f, j]) => delta_into(s, t, f, j, tray),
+        (Call::Sigma, [s, t, f, i]) => sigma_into(s, t, f, i, tray),
+        (Call::Pi, [s, t, f, i]) => pi_into(s, t, f, i, tray),
+        (Call::CheckPushed, [s, t, f, run, book, list]) => {
+            check_pushed(s, t, f, run, book, list).map(|()| 0)
+        }
+        (Call::CheckRaw, [s, t, f, run, book, list]) => {
+            check_raw(s, t, f, run, book, list).map(|()| 0)
+        }
+        (Call::PushedToRaw, [s, t, f, run, book, list]) => {
+            pushed_to_raw_into(s, t, f, run, book, list, tray)
+        }
+        (Call::RawToPushed, [s, t, f, run, book, list]) => {
+            raw_to_pushed_into(s, t, f, run, book, list, tray)
+        }
+        _ => unreachable!("a call lent its sheets"),
+    }
+}

@@ -1,0 +1,140 @@
+//! The public calls, and a case: one call with what it is lent.
+
+/// A public call.  Its number in the vector file is its place in [`Call::ALL`].
+#[derive(Debug, Clone, Copy, PartialEq, Eq, PartialOrd, Ord)]
+pub enum Call {
+    /// A schema.
+    CheckSchema,
+    /// S, T, a mapping.
+    CheckMapping,
+    /// A schema, an instance of it.
+    CheckInstance,
+    /// A schema, two paths.
+    SamePath,
+    /// S, T, a mapping, an instance of T; a tray.
+    Delta,
+    /// S, T, a mapping, an instance of S; a tray.
+    Sigma,
+    /// S, T, a mapping, an instance of S; a tray.
+    Pi,
+    /// S, T, a mapping, run, book, a list of the pushed side.
+    CheckPushed,
+    /// S, T, a mapping, run, book, a list of the raw side.
+    CheckRaw,
+    /// S, T, a mapping, run, book, a list of the pushed side; a tray.
+    PushedToRaw,
+    /// S, T, a mapping, run, book, a list of the raw side; a tray.
+    RawToPushed,
+}
+
+/// What stands on a sheet.
+#[derive(Debug, Clone, Copy, PartialEq, Eq, PartialOrd, Ord)]
+pub enum Kind {
+    /// A schema.
+    Schema,
+    /// A mapping of the schema at place 1 to the schema at place 2.
+    Mapping,
+    /// An instance of the schema at place 1.
+    InstanceOfS,
+    /// An instance of the schema at place 2.
+    InstanceOfT,
+    /// A path of the schema at place 1.
+    Path,
+    /// A list of partners.
+    List,
+}
+
+impl Call {
+    /// All calls.
+    pub const ALL: [Call; 11] = [
+        Call::CheckSchema,
+        Call::CheckMapping,
+        Call::CheckInstance,
+        Call::SamePath,
+        Call::Delta,
+        Call::Sigma,
+        Call::Pi,
+        Call::CheckPushed,
+        Call::CheckRaw,
+        Call::PushedToRaw,
+        Call::RawToPushed,
+    ];
+
+    /// The call's name in the library.
+    pub fn name(self) -> &'static str {
+        match self {
+            Call::CheckSchema => "check_schema",
+            Call::CheckMapping => "check_mapping",
+            Call::CheckInstance => "check_instance",
+            Call::SamePath => "same_path",
+            Call::Delta => "delta",
+            Call::Sigma => "sigma",
+            Call::Pi => "pi",
+            Call::CheckPushed => "check_pushed",
+            Call::CheckRaw => "check_raw",
+            Call::PushedToRaw => "pushed_to_raw",
+            Call::RawToPushed => "raw_to_pushed",
+        }
+    }
+
+    /// The sheets that the call takes, by place: "Sheets are judged in the order
+    /// S, T, mapping, instance or instances, path or paths; of transposition's
+    /// two instances the run over S comes first. ... then the matching sheet".
+    pub fn sheets(self) -> &'static [Kind] {
+        use Kind::*;
+        match self {
+            Call::CheckSchema => &[Schema],
+            Call::CheckMapping => &[Schema, Schema, Mapping],
+            Call::CheckInstance => &[Schema, InstanceOfS],
+            Call::SamePath => &[Schema, Path, Path],
+            Call::Delta => &[Schema, Schema, Mapping, InstanceOfT],
+            Call::Sigma | Call::Pi => &[Schema, Schema, Mapping, InstanceOfS],
+            Call::CheckPushed | Call::CheckRaw | Call::PushedToRaw | Call::RawToPushed => {
+                &[Schema, Schema, Mapping, InstanceOfS, InstanceOfT, List]
+            }
+        }
+    }
+
+    /// Whether the call writes a result into a tray.
+    pub fn has_tray(self) -> bool {
+        use Call::*;
+        matches!(self, Delta | Sigma | Pi | PushedToRaw | RawToPushed)
+    }
+
+    /// Whether the call takes run, book and list.
+    pub fn has_list(self) -> bool {
+        self.sheets().contains(&Kind::List)
+    }
+}
+
+/// One call with the sheets and the tray that it is lent.
+#[derive(Debug, Clone, PartialEq, Eq)]
+pub struct Case {
+    /// What the case is there for.
+    pub name: String,
+    /// The call.
+    pub call: Call,
+    /// The sheets, by place.
+    pub sheets: Vec<Vec<u8>>,
+    /// The tray's length; 0 for a call without one.
+    pub tray: usize,
+}
+
+impl Case {
+    /// The most bytes that a tray has: its length is a 16-bit number.
+    pub const MOST_TRAY: usize = 65_535;
+
+    /// A case of a call without a tray, or with an empty one.
+    pub fn new(name: impl Into<String>, call: Call, sheets: Vec<Vec<u8>>) -> Self {
+        assert_eq!(sheets.len(), call.sheets().len());
+        Case { name: name.into(), call, sheets, tray: 0 }
+    }
+
+    /// The case with a tray of this length, if the call has one.
+    pub fn with_tray(mut self, length: usize) -> Self {
+        if self.call.has_tray() {
+            self.tray = length.min(Self::MOST_TRAY);
+        }
+        self
+    }
+}

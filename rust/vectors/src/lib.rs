@@ -1,0 +1,28 @@
+//! Calls to try, made by a generator with fixed seeds, and what the reference
+//! answers to them.
+//!
+//! - [`schemas`], [`instances`], [`mappings`], [`even`] make sheets that are
+//!   accepted, [`world`] sets of them that fit together;
+//! - [`damage`] makes one sheet of such a set one that is sent back;
+//! - [`papers`], [`limits`], [`stream`] are the cases, [`record`] the vector
+//!   file and [`report`] their count by outcome.
+
+#![forbid(unsafe_code)]
+#![warn(missing_docs)]
+
+pub mod answer;
+pub mod base;
+pub mod build;
+pub mod call;
+pub mod damage;
+pub mod even;
+pub mod instances;
+pub mod limits;
+pub mod mappings;
+pub mod papers;
+pub mod random;
+pub mod record;
+pub mod report;
+pub mod schemas;
+pub mod stream;
+pub mod world;

@@ -1,0 +1,77 @@
+//! The vector file and what is expected of it.
+//!
+//! The vector file is records, one after the other, until it ends.  A record is
+//!
+//! - the call, one byte: its place in [`Call::ALL`] from 0;
+//! - six sheets, each after its 16-bit byte length, most significant byte first;
+//!   those that the call does not take are empty;
+//! - the tray's byte length, 16 bits, most significant byte first; 0 for a call
+//!   without a tray.
+//!
+//! Before the call every byte of the tray is 165.  For each record the expected
+//! text has one line: the answer as the number of the C call (`Outcome::number`)
+//! and the [`checksum`] of the whole tray afterwards, both in decimal, with one
+//! space between them.
+
+use crate::answer::{reference_outcome, Outcome};
+use crate::call::{Call, Case};
+use crate::limits::limits;
+use crate::papers::papers;
+use crate::random::Random;
+use crate::stream::{for_each_refusal, Chance};
+
+/// The sheets of every record.
+pub const SHEETS: usize = 6;
+
+/// The cases of the vector file.
+pub fn stored_cases() -> Vec<Case> {
+    let mut random = Random::seeded(1);
+    let fixed = papers().into_iter().chain(limits());
+    let twice = [for_each_refusal(&mut random), for_each_refusal(&mut random)];
+    let made = twice.into_iter().flatten().map(|expected| expected.case);
+    let short = |case: &Case| record(case).len() <= MOST_RECORD_BY_CHANCE;
+    let chance = Chance::seeded(2).filter(short).take(CASES_BY_CHANCE);
+    fixed.chain(made).chain(chance).collect()
+}
+
+/// So many of the stored cases are made by chance.
+const CASES_BY_CHANCE: usize = 3000;
+
+/// None of these is longer than so many bytes.
+const MOST_RECORD_BY_CHANCE: usize = 1000;
+
+/// A case as a record.
+pub fn record(case: &Case) -> Vec<u8> {
+    let call = Call::ALL.iter().position(|&call| call == case.call).expect("a call");
+    let mut bytes = vec![call as u8];
+    for place in 0..SHEETS {
+        let sheet = case.sheets.get(place).map_or(&[][..], Vec::as_slice);
+        bytes.extend(length(sheet.len()));
+        bytes.extend(sheet);
+    }
+    bytes.extend(length(case.tray));
+    bytes
+}
+
+fn length(length: usize) -> [u8; 2] {
+    u16::try_from(length).expect("a 16-bit length").to_be_bytes()
+}
+
+/// The line that is expected for an outcome.
+pub fn line(outcome: &Outcome) -> String {
+    format!("{} {}\n", outcome.number(), checksum(&outcome.tray))
+}
+
+/// From 0 on, for each byte of the tray: 257 times the sum before, plus the byte
+/// and 1, modulo the prime 4294967291.
+pub fn checksum(tray: &[u8]) -> u64 {
+    tray.iter().fold(0, |sum, &byte| (257 * sum + u64::from(byte) + 1) % 4_294_967_291)
+}
+
+/// The vector file and the expected text.
+pub fn files() -> (Vec<u8>, String) {
+    let cases = stored_cases();
+    let vectors = cases.iter().flat_map(record).collect();
+    let expected = cases.iter().map(|case| line(&reference_outcome(case))).collect();
+    (vectors, expected)
+}

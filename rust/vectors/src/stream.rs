@@ -1,0 +1,254 @@
+//! The order in which cases are tried: the fixed ones, those that are made for
+//! one refusal each, then as many by chance as are wanted.
+
+use crate::answer::result_length;
+use crate::call::{Call, Case};
+use crate::damage::Damage;
+use crate::even::{even_mapping, uneven_mapping, Unevenness};
+use crate::instances::instance;
+use crate::mappings::mapping;
+use crate::random::Random;
+use crate::world::{Sheet, World};
+use reference::{migrate, refusal, Refusal};
+
+/// A case, and the refusal that it is made for.
+pub struct Expected {
+    /// The case.
+    pub case: Case,
+    /// What it is sent back with.
+    pub refusal: Refusal,
+}
+
+/// The calls with a list.
+const WITH_LIST: [Call; 4] =
+    [Call::CheckPushed, Call::CheckRaw, Call::PushedToRaw, Call::RawToPushed];
+
+/// For each call, place and damage a case with that damage; then those for the
+/// numbers of no single sheet.
+pub fn for_each_refusal(random: &mut Random) -> Vec<Expected> {
+    let mut cases = Vec::new();
+    for call in Call::ALL {
+        for (place, &kind) in call.sheets().iter().enumerate() {
+            for damage in Damage::of(kind) {
+                let case = damaged(random, call, place, damage);
+                let refusal = Refusal { number: damage.number(), place: place as u8 + 1 };
+                cases.push(Expected { case, refusal });
+            }
+        }
+    }
+    cases.extend(for_no_single_sheet(random));
+    cases
+}
+
+/// A case of a call with a damaged sheet, from the first world that allows it.
+fn damaged(random: &mut Random, call: Call, place: usize, damage: Damage) -> Case {
+    loop {
+        let world = World::matched(random, 3);
+        let lent = world.lent(random, call);
+        if let Some(sheets) = damage.done_to(random, call, &lent, place) {
+            let name = format!("place {}, {damage:?}", place + 1);
+            return Case::new(name, call, sheets).with_tray(random.below(64));
+        }
+    }
+}
+
+/// Cases for 12, 13, 15 and 16; those for 14 are among the limits.
+fn for_no_single_sheet(random: &mut Random) -> Vec<Expected> {
+    let mut cases = Vec::new();
+    let mut add = |number: u8, case: Case| {
+        cases.push(Expected { case, refusal: Refusal { number, place: 0 } });
+    };
+    for call in [[Call::Sigma].as_slice(), &WITH_LIST].concat() {
+        for reason in Unevenness::ALL {
+            let mapped = uneven_mapping(random, reason);
+            let world = World::unrelated(random, mapped, 3);
+            let sheets = sheets(&world.lent(random, call));
+            add(12, Case::new(format!("{reason:?}"), call, sheets).with_tray(random.below(64)));
+        }
+    }
+    for (column, name) in [(true, "a column more in T"), (false, "two columns over one")] {
+        add(13, Case::new(name, Call::Pi, unpaired(random, column)).with_tray(99));
+    }
+    for call in [[Call::Delta].as_slice(), &WITH_LIST].concat() {
+        let world = overfull(random);
+        let sheets = sheets(&world.lent(random, call));
+        add(15, Case::new("too many rows pulled back", call, sheets).with_tray(600));
+    }
+    add(15, too_many_families(random));
+    for call in Call::ALL.into_iter().filter(|call| call.has_tray()) {
+        for _ in 0..3 {
+            let (case, needed) = accepted(random, call);
+            add(16, case.clone().with_tray(needed - 1));
+            add(16, case.with_tray(0));
+        }
+    }
+    cases
+}
+
+/// The bytes of sheets.
+fn sheets(lent: &[Sheet]) -> Vec<Vec<u8>> {
+    lent.iter().map(Sheet::bytes).collect()
+}
+
+/// Sheets for Pi whose attribute mapping is no bijection: T has a column more,
+/// or two of S lie over one.
+fn unpaired(random: &mut Random, column: bool) -> Vec<Vec<u8>> {
+    loop {
+        let mut mapped = mapping(random, false);
+        let Some(&last) = mapped.s.attributes.last() else { continue };
+        if column {
+            let node = random.below(mapped.t.nodes);
+            mapped.t.attributes.push(reference::plain::Attribute { node, kind: last.kind });
+        } else {
+            mapped.s.attributes.push(last);
+            mapped.f.attributes.push(*mapped.f.attributes.last().expect("an image for each"));
+        }
+        return sheets(&World::unrelated(random, mapped, 3).lent(random, Call::Pi));
+    }
+}
+
+/// A world whose book has more than 512 rows when it is pulled back.
+fn overfull(random: &mut Random) -> World {
+    loop {
+        let mapped = even_mapping(random);
+        let book = instance(random, &mapped.t, 400);
+        if migrate::delta(&mapped.s, &mapped.f, &book) == Err(refusal::OVERFULL) {
+            return World { book, ..World::unrelated(random, mapped, 3) };
+        }
+    }
+}
+
+/// A case in which Pi has more than 512 families.
+fn too_many_families(random: &mut Random) -> Case {
+    loop {
+        let mapped = mapping(random, false);
+        let world = World::unrelated(random, mapped, 30);
+        let case = Case::new("too many families", Call::Pi, sheets(&world.lent(random, Call::Pi)));
+        let [s, t, f, i] = case.sheets.as_slice() else { unreachable!("Pi's sheets") };
+        if reference::pi(s, t, f, i) == Err(Refusal { number: refusal::OVERFULL, place: 0 }) {
+            return case.with_tray(600);
+        }
+    }
+}
+
+/// An accepted case of a call with a tray, and the bytes that it needs, at least
+/// one.
+fn accepted(random: &mut Random, call: Call) -> (Case, usize) {
+    loop {
+        let world = if call == Call::Pi {
+            let mapped = mapping(random, false);
+            World::unrelated(random, mapped, 3)
+        } else {
+            World::matched(random, 3)
+        };
+        let case = Case::new("a small tray", call, sheets(&world.lent(random, call)));
+        if let Some(needed @ 1..) = result_length(&case) {
+            return (case, needed);
+        }
+    }
+}
+
+/// Cases by chance, without end: for each world every call on its sheets as they
+/// are and on damaged ones.
+pub struct Chance {
+    random: Random,
+    worlds: u64,
+    waiting: Vec<Case>,
+}
+
+impl Chance {
+    /// The cases of a seed.
+    pub fn seeded(seed: u64) -> Self {
+        Chance { random: Random::seeded(seed), worlds: 0, waiting: Vec::new() }
+    }
+
+    /// All cases of the next world.
+    fn next_world(&mut self) -> Vec<Case> {
+        self.worlds += 1;
+        let random = &mut self.random;
+        let generators = *random.one_of(&[1, 2, 2, 3, 3, 4, 4, 6, 12, 40]);
+        let world = World::any(random, generators);
+        let mut cases = Vec::new();
+        for call in Call::ALL {
+            let lent = world.lent(random, call);
+            let name = |what: &str| format!("world {}, {what}", self.worlds);
+            let whole = Case::new(name("as it is"), call, sheets(&lent));
+            let tray = some_tray(random, &whole);
+            cases.push(whole.with_tray(tray));
+            let (what, sheets) = by_chance(random, call, &lent);
+            cases.push(Case::new(name(&what), call, sheets).with_tray(tray));
+        }
+        cases
+    }
+}
+
+impl Iterator for Chance {
+    type Item = Case;
+
+    fn next(&mut self) -> Option<Case> {
+        while self.waiting.is_empty() {
+            self.waiting = self.next_world();
+            self.waiting.reverse();
+        }
+        self.waiting.pop()
+    }
+}
+
+/// A length for the tray: what is needed, a byte less, some more, or any.
+fn some_tray(random: &mut Random, case: &Case) -> usize {
+    let needed = if case.call.has_tray() { result_length(case) } else { None };
+    match (needed, random.below(6)) {
+        (Some(needed), 0) => needed.saturating_sub(1),
+        (Some(needed), 1..=2) => needed,
+        (Some(needed), 3..=4) => needed + 1 + random.below(20),
+        _ => random.below(80),
+    }
+}
+
+/// The sheets with one of them damaged, and what was done.
+fn by_chance(random: &mut Random, call: Call, lent: &[Sheet]) -> (String, Vec<Vec<u8>>) {
+    let place = random.below(lent.len());
+    let damage = *random.one_of(&Damage::of(call.sheets()[place]));
+    if random.once_in(3) {
+        if let Some(sheets) = damage.done_to(random, call, lent, place) {
+            return (format!("place {}, {damage:?}", place + 1), sheets);
+        }
+    }
+    let mut sheets = sheets(lent);
+    let what = match random.below(8) {
+        0 => {
+            sheets[place] = random.bytes(40);
+            "random bytes"
+        }
+        1 => {
+            let other = random.below(lent.len());
+            sheets.swap(place, other);
+            "two sheets exchanged"
+        }
+        2 => {
+            let length = random.below(sheets[place].len() + 1);
+            sheets[place].truncate(length);
+            "cut"
+        }
+        3 => {
+            let at = random.below(sheets[place].len() + 1);
+            sheets[place].insert(at, random.bits() as u8);
+            "a byte more"
+        }
+        _ => {
+            for _ in 0..1 + random.below(2) {
+                flip(random, &mut sheets[place]);
+            }
+            "bits flipped"
+        }
+    };
+    (format!("place {}, {what}", place + 1), sheets)
+}
+
+/// Flips a bit, if there is one.
+fn flip(random: &mut Random, sheet: &mut [u8]) {
+    if !sheet.is_empty() {
+        let bit = random.below(8 * sheet.len());
+        sheet[bit / 8] ^= 0x80 >> (bit % 8);
+    }
+}

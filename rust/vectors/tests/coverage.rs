@@ -1,0 +1,360 @@
+//! What the stored cases must have among them.
+
+use reference::plain::*;
+use reference::Refusal;
+use std::collections::BTreeMap;
+use std::sync::OnceLock;
+use vectors::answer::{reference_outcome, Outcome};
+use vectors::call::{Call, Case, Kind};
+use vectors::even::is_even;
+use vectors::limits::{limits, longest};
+use vectors::mappings::Mapped;
+use vectors::papers::papers;
+use vectors::random::Random;
+use vectors::record::stored_cases;
+use vectors::report::{End, Report};
+use vectors::stream::for_each_refusal;
+
+/// Document 01's table "Why a sheet is sent back", by what stands on the sheet.
+fn numbers_of(kind: Kind) -> &'static [u8] {
+    match kind {
+        // 7 on are about mappings, instances and lists.
+        Kind::Schema => &[1, 2, 3, 4, 5, 6],
+        // "an image is missing in T ..", "an equation of S has unequal images"
+        Kind::Mapping => &[1, 2, 7, 8],
+        // "the sum of the row counts", then rows, values and equations.
+        Kind::InstanceOfS | Kind::InstanceOfT => &[1, 2, 3, 9, 10, 11],
+        // "a schema or path names a missing node or edge"; no count limits a path.
+        Kind::Path => &[1, 2, 4],
+        // "then the matching sheet (1, 2, 17)"
+        Kind::List => &[1, 2, 17],
+    }
+}
+
+/// The numbers of no single sheet.  15 does not occur for Sigma: its result has
+/// as many rows as the run.
+fn numbers_of_no_sheet(call: Call) -> &'static [u8] {
+    match call {
+        Call::CheckSchema | Call::CheckMapping | Call::CheckInstance | Call::SamePath => &[],
+        Call::Delta => &[15, 16],
+        Call::Sigma => &[12, 16],
+        Call::Pi => &[13, 14, 15, 16],
+        Call::CheckPushed | Call::CheckRaw => &[12, 15],
+        Call::PushedToRaw | Call::RawToPushed => &[12, 15, 16],
+    }
+}
+
+/// Every end that a call can have.
+fn can_occur(call: Call) -> Vec<End> {
+    let mut ends = match call {
+        Call::SamePath => vec![End::Equal, End::Unequal],
+        _ => vec![End::Accepted],
+    };
+    let of_none = numbers_of_no_sheet(call).iter();
+    ends.extend(of_none.map(|&number| End::Refused { place: 0, number }));
+    for (place, &kind) in call.sheets().iter().enumerate() {
+        let place = place as u8 + 1;
+        let numbers = numbers_of(kind).iter();
+        ends.extend(numbers.map(|&number| End::Refused { place, number }));
+    }
+    ends
+}
+
+fn outcomes(cases: Vec<Case>) -> Vec<(Case, Outcome)> {
+    let outcome = |case: Case| {
+        let outcome = reference_outcome(&case);
+        (case, outcome)
+    };
+    cases.into_iter().map(outcome).collect()
+}
+
+/// The stored cases and their outcomes.
+fn stored() -> &'static [(Case, Outcome)] {
+    static STORED: OnceLock<Vec<(Case, Outcome)>> = OnceLock::new();
+    STORED.get_or_init(|| outcomes(stored_cases()))
+}
+
+#[test]
+fn every_call_ends_in_every_way_that_it_can_and_in_no_other() {
+    let mut report = Report::default();
+    for (case, outcome) in stored() {
+        report.add(case.call, outcome);
+    }
+    for call in Call::ALL {
+        for end in can_occur(call) {
+            assert!(report.count(call, end) > 0, "{} never ends {end}", call.name());
+        }
+    }
+    for (call, end) in report.met() {
+        assert!(can_occur(call).contains(&end), "{} ends {end}", call.name());
+    }
+    assert_eq!(Call::ALL.map(|call| can_occur(call).len()).iter().sum::<usize>(), 266);
+}
+
+#[test]
+fn what_is_made_for_a_refusal_meets_it() {
+    for seed in [1, 2, 3] {
+        for made in for_each_refusal(&mut Random::seeded(seed)) {
+            let Outcome { answer, tray } = reference_outcome(&made.case);
+            assert_eq!(answer, Err(made.refusal), "{} {}", made.case.call.name(), made.case.name);
+            assert!(tray.iter().all(|&byte| byte == vectors::answer::FILLING));
+        }
+    }
+}
+
+/// The ends of cases by call and name.
+fn ends(cases: Vec<Case>) -> BTreeMap<(Call, String), Vec<End>> {
+    let mut ends: BTreeMap<(Call, String), Vec<End>> = BTreeMap::new();
+    for (case, outcome) in outcomes(cases) {
+        ends.entry((case.call, case.name)).or_default().push(End::of(case.call, &outcome));
+    }
+    ends
+}
+
+fn refused(number: u8, place: u8) -> End {
+    End::Refused { place, number }
+}
+
+#[test]
+fn the_papers_cases_end_as_it_says() {
+    let ends = ends(papers());
+    let check = |call: Call, name: &str, expected: &[End]| {
+        assert_eq!(ends[&(call, name.to_string())], expected, "{name}");
+    };
+    use End::*;
+    check(Call::Sigma, "case 1: sigma", &[Accepted]);
+    check(Call::Delta, "case 2: delta", &[Accepted]);
+    check(Call::CheckPushed, "case 3: pushed", &[Accepted]);
+    check(Call::CheckRaw, "case 3: raw", &[Accepted]);
+    check(Call::CheckPushed, "case 3: raw as pushed", &[refused(17, 6)]);
+    check(Call::PushedToRaw, "case 3: raw to raw", &[refused(17, 6)]);
+    check(Call::Sigma, "case 4: sigma", &[refused(12, 0)]);
+    check(Call::Pi, "case 4: pi", &[Accepted]);
+    check(Call::CheckMapping, "case 5: mapping", &[Accepted]);
+    check(Call::Sigma, "case 5: sigma", &[refused(12, 0)]);
+    check(Call::Pi, "case 6: pi", &[Accepted]);
+    check(Call::SamePath, "case 7: abf, cdf", &[Equal]);
+    check(Call::SamePath, "case 8: ab, cd", &[Unequal]);
+    check(Call::CheckSchema, "case 9: schema", &[refused(1, 1)]);
+    check(Call::SamePath, "case 9: path", &[refused(2, 2), refused(2, 3)]);
+    check(Call::CheckSchema, "case 10: 256 paths", &[Accepted]);
+    check(Call::CheckSchema, "case 10: 257 paths", &[refused(6, 1)]);
+    check(Call::CheckInstance, "case 11: 512 rows", &[Accepted]);
+    check(Call::CheckInstance, "case 11: 513 rows", &[refused(3, 2)]);
+    check(Call::CheckInstance, "case 11: clock 719", &[Accepted]);
+    check(Call::CheckInstance, "case 11: clock 720", &[refused(10, 2)]);
+    check(Call::Sigma, "case 12: a tray of 17 bytes", &[refused(16, 0)]);
+    check(Call::Sigma, "case 12: a tray of 18 bytes", &[Accepted]);
+    let only_matching = |call: Call| {
+        let tried = ends.iter().filter(|((of, name), _)| *of == call && name.contains("for row"));
+        tried.filter(|(_, ends)| ends.contains(&Accepted)).count()
+    };
+    // For each of the five rows one partner of the four is the right one.
+    assert_eq!([Call::CheckPushed, Call::CheckRaw].map(only_matching), [5, 5]);
+}
+
+#[test]
+fn limits_are_met_on_both_sides() {
+    let ends = ends([limits(), longest()].concat());
+    let check = |call: Call, name: &str, expected: &[End]| {
+        assert_eq!(ends[&(call, name.to_string())], expected, "{name}");
+    };
+    let sides = |call: Call, at: &str, beyond: &str, refusal: End| {
+        check(call, at, &[End::Accepted]);
+        check(call, beyond, &[refusal]);
+    };
+    sides(Call::CheckSchema, "16 nodes", "17 nodes", refused(3, 1));
+    sides(Call::CheckSchema, "32 edges", "33 edges", refused(3, 1));
+    sides(Call::CheckSchema, "16 attributes", "17 attributes", refused(3, 1));
+    sides(Call::CheckSchema, "32 equations", "33 equations", refused(3, 1));
+    sides(Call::CheckSchema, "256 paths, 32 equations", "more than 256 paths", refused(6, 1));
+    sides(Call::CheckInstance, "512 rows in two tables", "513 rows in two tables", refused(3, 2));
+    sides(
+        Call::CheckInstance,
+        "a link to the last of 511 rows",
+        "a link beyond 511 rows",
+        refused(9, 2),
+    );
+    sides(Call::CheckInstance, "kind 14, value 1", "kind 14, value 2", refused(10, 2));
+    sides(Call::Pi, "64 components", "65 components", refused(14, 0));
+    check(Call::Pi, "65 components without rows", &[refused(14, 0)]);
+    check(Call::Pi, "64 components of two rows", &[refused(15, 0)]);
+    let together = "rows of all tables together";
+    let [full, over] = [End::Accepted, refused(15, 0)];
+    check(Call::Delta, together, &[full, over, over]);
+    check(Call::Sigma, together, &[full, full]);
+    check(Call::Pi, together, &[full, over, full, over, full]);
+    check(Call::CheckRaw, together, &[full, over, over, over, full, full]);
+    check(Call::PushedToRaw, together, &[full, over, over, over, full, refused(16, 0)]);
+    let uneven = refused(12, 0);
+    check(Call::Sigma, "lifts of two and three edges", &[uneven, uneven, full]);
+    check(Call::CheckInstance, "the longest instance", &[full]);
+    check(Call::CheckInstance, "the longest, cut", &[refused(1, 2)]);
+    check(Call::CheckInstance, "the longest, dangling", &[refused(9, 2)]);
+    check(Call::Sigma, "the longest, pushed", &[full]);
+    check(Call::Pi, "the longest, joined", &[full]);
+    check(Call::CheckSchema, "65,535 bytes", &[refused(2, 1)]);
+}
+
+/// The decoded schemas, mapping and first instance of an accepted case.
+struct Opened {
+    mapped: Mapped,
+    instance: Instance,
+    outcome: &'static Outcome,
+    case: &'static Case,
+}
+
+impl Opened {
+    fn of(case: &'static Case, outcome: &'static Outcome) -> Option<Self> {
+        if outcome.answer.is_err() || case.sheets.len() < 4 {
+            return None;
+        }
+        let s = Schema::accept(&case.sheets[0]).ok()?;
+        let t = Schema::accept(&case.sheets[1]).ok()?;
+        let f = Mapping::accept(&s, &t, &case.sheets[2]).ok()?;
+        let over = if case.call == Call::Delta { &t } else { &s };
+        let instance = Instance::accept(over, &case.sheets[3]).ok()?;
+        Some(Opened { mapped: Mapped { s, t, f }, instance, outcome, case })
+    }
+
+    /// The same without equations.
+    fn without_equations(&self) -> Mapped {
+        let mut mapped = self.mapped.clone();
+        mapped.s.equations.clear();
+        mapped.t.equations.clear();
+        mapped
+    }
+
+    /// The result, decoded over a schema.
+    fn result(&self, schema: &Schema) -> Instance {
+        let length = self.outcome.answer.expect("an accepted case");
+        Instance::accept(schema, &self.outcome.tray[..length]).expect("an accepted result")
+    }
+
+    /// The number of nodes of S over each node of T.
+    fn preimages(&self) -> Vec<usize> {
+        (0..self.mapped.t.nodes).map(|d| self.mapped.f.fibre(d).len()).collect()
+    }
+
+    /// Whether an edge of T has a lift of more than one edge, with rows to carry.
+    fn has_long_lift(&self) -> bool {
+        let Mapped { s, t, f } = &self.mapped;
+        let lifting = reference::evenness::Lifting::new(s, t, f);
+        (0..s.nodes).any(|c| {
+            let edges = t.edges_from(f.nodes[c]);
+            let long = |&e: &usize| lifting.edge_lift(c, e).edges.len() > 1;
+            self.instance.rows[c] > 0 && edges.iter().any(long)
+        })
+    }
+}
+
+/// What is looked for among the accepted cases of a call.
+type Feature = fn(&Opened) -> bool;
+
+const OF_SIGMA: [(&str, Feature); 8] = [
+    ("no rows at all", |o| o.instance.total_rows() == 0),
+    ("a table without rows beside one with rows", |o| {
+        o.instance.rows.contains(&0) && o.instance.total_rows() > 0
+    }),
+    ("a node without preimage", |o| o.preimages().contains(&0)),
+    ("several preimages with rows", |o| {
+        (0..o.mapped.t.nodes).any(|d| {
+            let fibre = o.mapped.f.fibre(d);
+            fibre.iter().filter(|&&c| o.instance.rows[c] > 0).count() > 1
+        })
+    }),
+    ("a lift longer than one edge", Opened::has_long_lift),
+    ("an edge of S over a longer path", |o| o.mapped.f.edges.iter().any(|e| e.len() > 1)),
+    ("equations without which the mapping is uneven", |o| !is_even(&o.without_equations())),
+    ("links and values", |o| {
+        let result = o.result(&o.mapped.t);
+        result.links.iter().any(|l| !l.is_empty()) && result.values.iter().any(|v| !v.is_empty())
+    }),
+];
+
+const OF_DELTA: [(&str, Feature); 4] = [
+    ("several preimages", |o| o.preimages().iter().any(|&count| count > 1)),
+    ("an edge over a trivial path", |o| o.mapped.f.edges.iter().any(Vec::is_empty)),
+    ("an edge over a longer path", |o| o.mapped.f.edges.iter().any(|e| e.len() > 1)),
+    ("a column that is left out", |o| o.mapped.t.attributes.len() > o.mapped.s.attributes.len()),
+];
+
+const OF_PI: [(&str, Feature); 6] = [
+    ("a node without preimage", |o| o.preimages().contains(&0)),
+    ("several rows in several tables", |o| {
+        o.result(&o.mapped.t).rows.iter().filter(|&&rows| rows > 1).count() > 1
+    }),
+    ("fewer families than combinations", |o| {
+        let every: usize = o.instance.rows.iter().product();
+        let result = o.result(&o.mapped.t).total_rows();
+        !o.mapped.s.edges.is_empty() && result < every && result > 1
+    }),
+    ("equations without which there are other rows", |o| {
+        let (s, t, f) = o.without_equations().sheets();
+        reference::pi(&s, &t, &f, &o.instance.to_sheet()) != Ok(o.result(&o.mapped.t).to_sheet())
+    }),
+    ("a table without rows", |o| o.result(&o.mapped.t).rows.contains(&0)),
+    ("columns", |o| o.result(&o.mapped.t).values.iter().any(|v| !v.is_empty())),
+];
+
+const OF_TURNING: [(&str, Feature); 3] = [
+    ("a list that is not its own turning", |o| {
+        o.outcome.tray[..o.outcome.answer.unwrap_or(0)] != o.case.sheets[5][..]
+    }),
+    ("two rows with one partner", |o| {
+        let Mapped { s, f, .. } = &o.mapped;
+        let rows = o.instance.rows.iter();
+        let book = Instance::accept(&o.mapped.t, &o.case.sheets[4]).expect("a book");
+        s.nodes > 1 && rows.zip(&f.nodes).any(|(&rows, &d)| rows > book.rows[d])
+            || o.preimages().iter().any(|&count| count > 1) && o.instance.total_rows() > 1
+    }),
+    ("no rows", |o| o.instance.total_rows() == 0),
+];
+
+#[test]
+fn what_matters_to_the_calls_occurs_among_the_accepted_cases() {
+    let opened: Vec<Opened> =
+        stored().iter().filter_map(|(case, outcome)| Opened::of(case, outcome)).collect();
+    let check = |call: Call, features: &[(&str, Feature)]| {
+        for (name, feature) in features {
+            let of_call = opened.iter().filter(|opened| opened.case.call == call);
+            let count = of_call.filter(|opened| feature(opened)).count();
+            assert!(count >= 3, "{}: {name} occurs {count} times", call.name());
+        }
+    };
+    check(Call::Sigma, &OF_SIGMA);
+    check(Call::Delta, &OF_DELTA);
+    check(Call::Pi, &OF_PI);
+    check(Call::PushedToRaw, &OF_TURNING);
+    check(Call::RawToPushed, &OF_TURNING);
+}
+
+#[test]
+fn equal_paths_that_differ_as_lists_occur() {
+    let asked = stored().iter().filter(|(case, outcome)| {
+        case.call == Call::SamePath && outcome.answer == Ok(1) && case.sheets[1] != case.sheets[2]
+    });
+    assert!(asked.count() > 20);
+}
+
+#[test]
+fn trays_of_the_result_s_length_and_a_byte_less_occur() {
+    for call in Call::ALL.into_iter().filter(|call| call.has_tray()) {
+        let cases = stored().iter().filter(|(case, _)| case.call == call);
+        let (mut exact, mut short) = (0, 0);
+        for (case, outcome) in cases {
+            match vectors::answer::result_length(case) {
+                Some(needed) if needed == case.tray => {
+                    assert_eq!(outcome.answer, Ok(needed));
+                    exact += 1;
+                }
+                Some(needed) if needed == case.tray + 1 => {
+                    assert_eq!(outcome.answer, Err(Refusal { number: 16, place: 0 }));
+                    short += 1;
+                }
+                _ => {}
+            }
+        }
+        assert!(exact > 5 && short > 5, "{}: {exact} exact, {short} short", call.name());
+    }
+}
