@@ -6,3 +6,5 @@ pub mod Replacing
 pub mod Writing
 pub mod Digits
 pub mod Packing
+pub mod Walk
+pub mod Held

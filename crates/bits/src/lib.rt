@@ -1,5 +1,7 @@
 // Bit fields of a list of bytes, most significant bit first.
 // A slice may have up to 2 ^ 63 bytes, so no count of all its bits is formed: positions go by byte and bit.
+pub mod reader;
+
 ghost use mathlib.Core.Path.{_≡_};
 ghost use mathlib.Core.List.{_++_};
 ghost use Prim.Native.Nat.{_+_, _*_, _^_, _≤_, min};

@@ -6,3 +6,4 @@ pub mod Walking
 pub mod TableList
 pub mod Judging
 pub mod Writing
+pub mod Lent

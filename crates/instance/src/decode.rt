@@ -1,5 +1,8 @@
 // What an instance sheet holds, read into working arrays: refusals 1, 2 and 3.
 use crate::Instance;
+use bits::reader::ends_at;
+use bits::reader::field_at;
+use bits::reader::lacks_at;
 use schema::Schema;
 ghost use mathlib.Core.Path.{_≡_};
 ghost use Prim.Native.Nat.{_+_, _*_, _≤_, _<_};
@@ -25,12 +28,12 @@ fn number(s: &[u8], at: usize, width: usize) -> u32
     ensures { λ r. ⌜ r ≡ field (now (s .entry)) at width ⌝ }
 {
     if width == 9 {
-        return bits::read_field(s, at, 9) as u32;
+        return field_at(s, at, 9) as u32;
     }
     if width == 32 {
-        return bits::read_field(s, at, 32) as u32;
+        return field_at(s, at, 32) as u32;
     }
-    bits::read_field(s, at, width) as u32
+    field_at(s, at, width) as u32
 }
 
 // n fields of one width, stored from base on.
@@ -102,7 +105,7 @@ fn read_columns(
     let mut p = at;
     while k < n {
         let rows = rows_of(home, counts, k);
-        if bits::lacks_room(s, p, width * rows) {
+        if lacks_at(s, p, width * rows) {
             return ColumnsRead {
                 cut: true,
                 next: at,
@@ -156,7 +159,7 @@ fn decode_tables(
     if b.cut {
         return Instance::faulty(1);
     }
-    if bits::tail_ok(s, b.next) {
+    if ends_at(s, b.next) {
         return Instance {
             fault: 0,
             counts: counts,
@@ -172,7 +175,7 @@ pub fn decode_instance(schema: Schema, s: &[u8], links: &mut [u32], values: &mut
 {
     let graph = schema.graph;
     let nodes = graph.nodes;
-    if bits::lacks_room(s, 0, 10 * nodes) {
+    if lacks_at(s, 0, 10 * nodes) {
         return Instance::faulty(1);
     }
     let counts = read_counts(s, nodes);

@@ -1,6 +1,8 @@
 // Matching sheets: for each row the row of its partner. Refusals 1 and 2, and how a matching is written.
 use crate::decode::read_column;
 use crate::encode::write_column;
+use bits::reader::ends_at;
+use bits::reader::lacks_at;
 ghost use mathlib.Core.Path.{_≡_};
 ghost use Prim.Native.Nat.{_*_, _≤_};
 ghost use lib.ListN.{length};
@@ -16,11 +18,11 @@ pub fn read_matching(s: &[u8], n: usize, out: &mut [u32]) -> u8
     requires { ⌜ (n ≤ 512) × (n ≤ length (now out)) ⌝ }
     ensures { λ r. ⌜ judgedPartners r n (now (out .exit)) ≡ onSheet (readPartners n) (now (s .entry)) ⌝ }
 {
-    if bits::lacks_room(s, 0, 9 * n) {
+    if lacks_at(s, 0, 9 * n) {
         return 1;
     }
     read_column(s, 0, 9, n, &mut *out, 0);
-    if bits::tail_ok(s, 9 * n) {
+    if ends_at(s, 9 * n) {
         return 0;
     }
     2

@@ -1,11 +1,11 @@
 // The table list: for each table its first row among all rows, and its count.
 use crate::decode::wide;
 ghost use mathlib.Core.Path.{_≡_};
-ghost use Prim.Native.Nat.{_≤_};
-ghost use lib.ListN.{length};
+ghost use Prim.Native.Nat.{_≤_, _<_};
+ghost use lib.ListN.{length, getD};
 ghost use Rattle.meaning.specs.Formats.{tablesFrom};
 ghost use Rattle.instance.specs.Decoded.{firstOf};
-ghost use Rattle.instance.specs.Tables.{tableListOf};
+ghost use Rattle.instance.specs.Tables.{noTable, tableListOf};
 
 pub struct Table {
     pub first: usize,
@@ -31,4 +31,20 @@ pub fn layout(counts: &[u32], n: usize) -> [Table; 16]
         c += 1;
     }
     list
+}
+
+// Table c of a lent table list.
+pub fn table_of(tables: &[Table], c: usize) -> Table
+    requires { ⌜ c < length (now tables) ⌝ }
+    ensures { λ r. ⌜ r ≡ getD (now (tables .entry)) c noTable ⌝ }
+{
+    tables[c]
+}
+
+// Table c of the first n, which are lent as a table list: for callers that hold it in an array.
+pub fn table_among(list: [Table; 16], n: usize, c: usize) -> Table
+    requires { ⌜ (c < n) × (n ≤ 16) ⌝ }
+    ensures { λ r. ⌜ r ≡ getD list c noTable ⌝ }
+{
+    table_of(&list[..n], c)
 }

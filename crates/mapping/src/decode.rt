@@ -1,6 +1,8 @@
 // What a mapping sheet holds, read into a struct: refusals 1 and 2.
 use crate::Image;
 use crate::Mapping;
+use bits::reader::ends_after;
+use bits::reader::lacks_at;
 use schema::Schema;
 use schema::decode::column;
 use schema::decode::small;
@@ -23,7 +25,7 @@ fn read_image(s: &[u8], at: usize) -> ImageRead
     ensures { λ r. ⌜ ImageTaken (now (s .entry)) at r ⌝ }
 {
     let none = Image::empty();
-    if bits::lacks_room(s, at, 4) {
+    if lacks_at(s, at, 4) {
         return ImageRead {
             cut: true,
             next: at,
@@ -31,7 +33,7 @@ fn read_image(s: &[u8], at: usize) -> ImageRead
         };
     }
     let n = small(s, at, 4) as usize;
-    if bits::lacks_room(s, at + 4, 5 * n) {
+    if lacks_at(s, at + 4, 5 * n) {
         return ImageRead {
             cut: true,
             next: at,
@@ -94,7 +96,7 @@ pub fn decode_mapping(t: Schema, s: &[u8]) -> Mapping
     let nodes = t.graph.nodes;
     let attributes = t.attributes;
     let first = 4 * nodes;
-    if bits::lacks_room(s, 0, first) {
+    if lacks_at(s, 0, first) {
         return Mapping::faulty(1);
     }
     let images = read_images(s, first, t.graph.edges);
@@ -103,10 +105,10 @@ pub fn decode_mapping(t: Schema, s: &[u8]) -> Mapping
     }
     let middle = images.next;
     let last = 4 * attributes;
-    if bits::lacks_room(s, middle, last) {
+    if lacks_at(s, middle, last) {
         return Mapping::faulty(1);
     }
-    if bits::tail_ok(s, middle + last) {
+    if ends_after(s, middle, last) {
         let node = column(s, 0, 4, 4, nodes);
         let attribute = column(s, middle, 4, 4, attributes);
         let edge = images.edge;

@@ -72,9 +72,9 @@ module _ {t : Schema} {a : Instance} {links values : List ℕ} {b : Instance} {l
     partner-in c l r h =
         ltb-true _ _ (all-at (existsAt list (firstIn tables c) (getD (b .counts) c 0)) (countIn tables c) (λ r. r) (all-at (existTest tables (b .counts) list) nodes (λ c. c) exist c l) r h)
 
-    columns-paired : (n : ℕ) (home : List ℕ) {x y : List ℕ} → n ≤ length home → ((k : ℕ) → k < n → getD home k 0 < nodes) → 512 * n ≤ length x → 512 * n ≤ length y → ColumnsPaired n home tables list x y
+    columns-paired : (n : ℕ) (home : List ℕ) {x y : List ℕ} → n ≤ length home → ((k : ℕ) → k < n → getD home k 0 < nodes) → 512 * n ≤ length x → 512 * n ≤ length y → ColumnsPaired n nodes home tables list x y
     columns-paired n home e h p q = record {
-      homes = record { long = e; table = λ k l. omega (arith, h k l, K .sound .limits .nodes) };
+      homes = record { few = K .sound .limits .nodes; long = e; table = h };
       each = λ k l.
           let w = within (getD home k 0) (h k l) in
           let few = sumOf-part nodes (λ c. getD (b .counts) c 0) (getD home k 0) (h k l) in
@@ -96,12 +96,12 @@ module _ {t : Schema} {a : Instance} {links values : List ℕ} {b : Instance} {l
         rw (← rows-at (targetOf e) u, count-at t (K .sound) a links values (targetOf e) u)
         (link-in t (K .sound) a links values (K .limits) (K .room .for-links) (K .links-in) e l r (rw (← count-at t (K .sound) a links values (sourceOf e) s, rows-at (sourceOf e) s) h))
 
-    pub links-paired : length (t .graph .source) ≡ 32 → length (t .graph .target) ≡ 32 → LinksPaired edges (t .graph .source) (t .graph .target) tables list links links′
+    pub links-paired : length (t .graph .source) ≡ 32 → length (t .graph .target) ≡ 32 → LinksPaired edges nodes (t .graph .source) (t .graph .target) tables list links links′
     links-paired s u =
         let few = K .sound .limits .edges in
         record {
           sources = columns-paired edges (t .graph .source) (omega arith) (source-in t (K .sound)) (omega (arith, K .room .for-links)) (omega (arith, K .room′ .for-links));
-          targets = record { long = omega arith; table = λ e l. omega (arith, target-in t (K .sound) e l, K .sound .limits .nodes) };
+          targets = record { few = K .sound .limits .nodes; long = omega arith; table = target-in t (K .sound) };
           each = λ e l. record { listed = λ r h. omega (arith, target-row e l r h, within (targetOf e) (target-in t (K .sound) e l), K .long) };
         }
 
@@ -141,7 +141,7 @@ module _ {t : Schema} {a : Instance} {links values : List ℕ} {b : Instance} {l
     abbrev homeOf : ℕ → ℕ
     homeOf k = getD (t .node) k 0
 
-    pub values-paired : length (t .node) ≡ 16 → ColumnsPaired attributes (t .node) tables list values values′
+    pub values-paired : length (t .node) ≡ 16 → ColumnsPaired attributes nodes (t .node) tables list values values′
     values-paired e =
         let few = K .sound .limits .attributes in
         columns-paired attributes (t .node) (omega arith) (home-in t (K .sound)) (omega (arith, K .room .for-values)) (omega (arith, K .room′ .for-values))

@@ -6,6 +6,7 @@ use instance::Instance;
 use instance::decode::wide;
 use instance::tables::Table;
 use instance::tables::layout;
+use instance::tables::table_among;
 use rows::links_agree;
 use rows::partners_below;
 use rows::values_agree;
@@ -27,7 +28,7 @@ fn partners_exist(n: usize, tables: [Table; 16], counts: &[u32], list: &[u32]) -
 {
     let mut c = 0;
     while c < n {
-        let table = tables[c];
+        let table = table_among(tables, n, c);
         if partners_below(list, table.first, table.count, wide(counts[c])) {
             c += 1;
         } else {
@@ -40,6 +41,7 @@ fn partners_exist(n: usize, tables: [Table; 16], counts: &[u32], list: &[u32]) -
 // Whether along each of n edges the partner of a row's target is the target of the row's partner.
 fn links_kept(
     n: usize,
+    nodes: usize,
     source: &[u8],
     target: &[u8],
     tables: [Table; 16],
@@ -47,13 +49,13 @@ fn links_kept(
     a: &[u32],
     b: &[u32],
 ) -> bool
-    requires { ⌜ LinksPaired n (now source) (now target) tables (now list) (now a) (now b) ⌝ }
+    requires { ⌜ LinksPaired n nodes (now source) (now target) tables (now list) (now a) (now b) ⌝ }
     ensures { λ r. ⌜ r ≡ all (linkTest (now (source .entry)) (now (target .entry)) tables (now (list .entry)) (now (a .entry)) (now (b .entry))) (tabulate n (λ e. e)) ⌝ }
 {
     let mut e = 0;
     while e < n {
-        let from = tables[source[e] as usize];
-        let to = tables[target[e] as usize];
+        let from = table_among(tables, nodes, source[e] as usize);
+        let to = table_among(tables, nodes, target[e] as usize);
         if links_agree(list, from.first, to.first, a, b, 512 * e, from.count) {
             e += 1;
         } else {
@@ -66,18 +68,19 @@ fn links_kept(
 // Whether each of n attributes has the same value at a row and its partner.
 fn values_kept(
     n: usize,
+    nodes: usize,
     node: &[u8],
     tables: [Table; 16],
     list: &[u32],
     a: &[u32],
     b: &[u32],
 ) -> bool
-    requires { ⌜ ColumnsPaired n (now node) tables (now list) (now a) (now b) ⌝ }
+    requires { ⌜ ColumnsPaired n nodes (now node) tables (now list) (now a) (now b) ⌝ }
     ensures { λ r. ⌜ r ≡ all (valueTest (now (node .entry)) tables (now (list .entry)) (now (a .entry)) (now (b .entry))) (tabulate n (λ k. k)) ⌝ }
 {
     let mut k = 0;
     while k < n {
-        let table = tables[node[k] as usize];
+        let table = table_among(tables, nodes, node[k] as usize);
         if values_agree(list, table.first, a, b, 512 * k, table.count) {
             k += 1;
         } else {
@@ -110,6 +113,7 @@ pub fn is_matching(
         let target = graph.target;
         if links_kept(
             graph.edges,
+            graph.nodes,
             &source,
             &target,
             tables,
@@ -118,7 +122,15 @@ pub fn is_matching(
             b_links,
         ) {
             let node = schema.node;
-            return values_kept(schema.attributes, &node, tables, list, a_values, b_values);
+            return values_kept(
+                schema.attributes,
+                graph.nodes,
+                &node,
+                tables,
+                list,
+                a_values,
+                b_values,
+            );
         }
     }
     false

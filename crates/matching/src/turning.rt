@@ -2,6 +2,7 @@
 use instance::Instance;
 use instance::tables::Table;
 use instance::tables::layout;
+use instance::tables::table_among;
 use mapping::Mapping;
 use schema::Schema;
 ghost use mathlib.Core.Path.{_≡_};
@@ -30,8 +31,8 @@ fn copy_tables(n: usize, from: [Table; 16], list: &[u32], to: [Table; 16], out: 
 {
     let mut c = 0;
     while c < n {
-        let here = from[c];
-        let there = to[c];
+        let here = table_among(from, n, c);
+        let there = table_among(to, n, c);
         copy_rows(list, here.first, here.count, &mut *out, there.first);
         c += 1;
     }
@@ -48,7 +49,7 @@ fn place_tables(n: usize, node: &[u8], own: [Table; 16], joined: [Table; 16]) ->
     let mut c = 0;
     while c < n {
         let d = node[c] as usize;
-        let table = own[c];
+        let table = table_among(own, n, c);
         let here = next[d];
         places[c] = Table {
             first: here.first,

@@ -2,6 +2,9 @@
 use crate::Graph;
 use crate::Path;
 use crate::Schema;
+use bits::reader::ends_at;
+use bits::reader::field_at;
+use bits::reader::lacks_at;
 ghost use mathlib.Core.Path.{_≡_};
 ghost use mathlib.Core.Bool.{true};
 ghost use Prim.Native.Nat.{_+_, _*_, _≤_};
@@ -17,7 +20,7 @@ pub fn small(s: &[u8], at: usize, width: usize) -> u8
     requires { ⌜ (width ≤ 8) × (at + width ≤ 8 * length (now s)) ⌝ }
     ensures { λ r. ⌜ r ≡ field (now (s .entry)) at width ⌝ }
 {
-    bits::read_field(s, at, width) as u8
+    field_at(s, at, width) as u8
 }
 
 // n fields, step bits apart.
@@ -48,7 +51,7 @@ pub fn read_path(s: &[u8], at: usize) -> PathRead
     ensures { λ r. ⌜ PathTaken (now (s .entry)) at r ⌝ }
 {
     let none = Path::empty();
-    if bits::lacks_room(s, at, 8) {
+    if lacks_at(s, at, 8) {
         return PathRead {
             cut: true,
             next: at,
@@ -57,7 +60,7 @@ pub fn read_path(s: &[u8], at: usize) -> PathRead
     }
     let start = small(s, at, 4);
     let n = small(s, at + 4, 4) as usize;
-    if bits::lacks_room(s, at + 8, 5 * n) {
+    if lacks_at(s, at + 8, 5 * n) {
         return PathRead {
             cut: true,
             next: at,
@@ -234,7 +237,7 @@ fn decode_body(s: &[u8], c: Counts) -> Schema
     let attributes = c.attributes;
     let middle = 22 + 8 * c.edges;
     let last = middle + 8 * attributes;
-    if bits::lacks_room(s, 0, last) {
+    if lacks_at(s, 0, last) {
         return Schema::faulty(1);
     }
     let equations = read_equations(s, last, c.equations);
@@ -242,7 +245,7 @@ fn decode_body(s: &[u8], c: Counts) -> Schema
         return Schema::faulty(1);
     }
     let next = equations.next;
-    if bits::tail_ok(s, next) {
+    if ends_at(s, next) {
         let graph = read_graph(s, c.nodes, c.edges);
         let node = column(s, middle, 8, 4, attributes);
         let kind = column(s, middle + 4, 8, 4, attributes);
@@ -266,7 +269,7 @@ fn decode_body(s: &[u8], c: Counts) -> Schema
 pub fn decode_schema(s: &[u8]) -> Schema
     ensures { λ r. ⌜ Decoded r (onSheet readSchema (now (s .entry))) ⌝ }
 {
-    if bits::lacks_room(s, 0, 22) {
+    if lacks_at(s, 0, 22) {
         return Schema::faulty(1);
     }
     let c = read_counts(s);

@@ -8,6 +8,7 @@ pub mod table;
 pub mod walk;
 pub mod well_formed;
 
+use bits::reader::ends_at;
 ghost use mathlib.Core.Path.{_≡_};
 ghost use Prim.Native.Nat.{_≤_};
 ghost use Rattle.meaning.specs.Judge.{testSchema, judgeSchema, judgePath};
@@ -165,7 +166,7 @@ pub fn judge_path(g: Graph, s: &[u8]) -> JudgedPath
         };
     }
     let next = r.next;
-    if bits::tail_ok(s, next) {
+    if ends_at(s, next) {
         let end = well_formed::follow(g, path);
         if end.joins {
             return JudgedPath {

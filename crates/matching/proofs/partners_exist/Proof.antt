@@ -9,19 +9,16 @@ use Rattle.matching.proofs.partners_exist.Statement.{statement}
 use Rattle.matching.proofs.partners_exist.Tie as tie
 
 abbrev Inv-loop : tie.InvT-loop
-Inv-loop n counts list tables c₀ c = Passed (existTest tables counts list) n (λ k. k) c
+Inv-loop n tables counts list c₀ c = Passed (existTest tables counts list) n (λ k. k) c
 
 abbrev μ-loop : tie.MeasureT-loop
-μ-loop n counts list tables c₀ c = n - c
+μ-loop n tables counts list c₀ c = n - c
 
 loop-holds : tie.Need-loop-holds Inv-loop μ-loop
 loop-holds c = passed-start _ _ _
 
-mul-table : tie.Need-mul-table Inv-loop μ-loop
-mul-table c = let h = c .before .before .before .before .pre .0 .few in omega arith
-
-array-copy-out-table : tie.Need-array-copy-out-table Inv-loop μ-loop
-array-copy-out-table c = let h = c .before .before .before .before .pre .0 .few in omega arith
+table-among-requires : tie.Need-table-among-requires Inv-loop μ-loop
+table-among-requires c κs = (c .loop-test .taken, c .before .before .before .before .pre .0 .few)
 
 mul-wide : tie.Need-mul-wide Inv-loop μ-loop
 mul-wide c = let h : c .before .before .loop .c < length (c .before .before .before .before .before .args .counts .now) = omega arith in search needs
@@ -33,7 +30,7 @@ wide-requires : tie.Need-wide-requires Inv-loop μ-loop
 wide-requires c κs = search needs
 
 partners-below-requires : tie.Need-partners-below-requires Inv-loop μ-loop
-partners-below-requires c κs = c .before .before .before .before .before .before .before .pre .0 .listed (c .before .before .before .before .loop .c) (c .before .before .before .loop-test .taken)
+partners-below-requires c κs = rw (c .before .before .table-among .ensures) (c .before .before .before .before .before .before .before .pre .0 .listed (c .before .before .before .before .loop .c) (c .before .before .before .loop-test .taken))
 
 add-c : tie.Need-add-c Inv-loop μ-loop
 add-c c = omega arith
@@ -42,10 +39,10 @@ loop-less : tie.Need-loop-less Inv-loop μ-loop
 loop-less c = omega arith
 
 loop-again : tie.Need-loop-again Inv-loop μ-loop
-loop-again c = let r = rw (c .before .before .wide .ensures) at (c .before .partners-below .ensures) in passed-more (c .before .before .before .before .before .before .loop .inv) (c .before .before .before .before .before .loop-test .taken) (sym r ∙ c .if1 .taken)
+loop-again c = let r = rw (c .before .before .wide .ensures, c .before .before .before .before .table-among .ensures) at (c .before .partners-below .ensures) in passed-more (c .before .before .before .before .before .before .loop .inv) (c .before .before .before .before .before .loop-test .taken) (sym r ∙ c .if1 .taken)
 
 returns : tie.Need-returns Inv-loop μ-loop
-returns c = let r = rw (c .before .before .wide .ensures) at (c .before .partners-below .ensures) in sym (passed-fail (c .before .before .before .before .before .before .loop .inv) (c .before .before .before .before .before .loop-test .taken) (sym r ∙ c .if1 .left))
+returns c = let r = rw (c .before .before .wide .ensures, c .before .before .before .before .table-among .ensures) at (c .before .partners-below .ensures) in sym (passed-fail (c .before .before .before .before .before .before .loop .inv) (c .before .before .before .before .before .loop-test .taken) (sym r ∙ c .if1 .left))
 
 returns-2 : tie.Need-returns-2 Inv-loop μ-loop
 returns-2 c = sym (passed-done (c .before .loop .inv) (c .loop-test .left))
@@ -57,8 +54,7 @@ partners-exist-spec =
     Inv-loop
     μ-loop
     loop-holds
-    mul-table
-    array-copy-out-table
+    table-among-requires
     mul-wide
     shared-slice-read-wide
     wide-requires

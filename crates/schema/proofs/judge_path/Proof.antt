@@ -20,8 +20,8 @@ returns c =
     let e : fails 1 ≡ readPath (c .before .before .before .before .args .s .now) 0 = rw (c .if1 .taken) at (v .ensures .says) in
     record { says = rw (← e); short = v .ensures .short; path = λ q. absurd (omega arith) }
 
-tail-ok-requires : tie.Need-tail-ok-requires
-tail-ok-requires c κs = search needs
+ends-at-requires : tie.Need-ends-at-requires
+ends-at-requires c κs = search needs
 
 follow-requires : tie.Need-follow-requires
 follow-requires c κs = search needs
@@ -31,7 +31,7 @@ returns-2 c =
     let a = c .before .before .before .before .before .before .before .before .args in
     let v = c .before .before .before .before .before .before .read-path in
     let e : reads (pathOf (v .result .path)) (v .result .next) ≡ readPath (a .s .now) 0 = rw (c .before .before .before .before .if1 .left) at (v .ensures .says) in
-    let t : tailOk (a .s .now) (v .result .next) ≡ true = sym (c .before .before .before .tail-ok .ensures) ∙ c .before .before .if2 .taken in
+    let t : tailOk (a .s .now) (v .result .next) ≡ true = sym (c .before .before .before .ends-at .ensures) ∙ c .before .before .if2 .taken in
     let w : isPath (graphOf (a .g)) (pathOf (v .result .path)) ≡ true = sym (c .before .follow .ensures .joins) ∙ c .if3 .taken in
     record { says = rw (← e, t, w); short = v .ensures .short; path = λ _. w }
 
@@ -40,7 +40,7 @@ returns-3 c =
     let a = c .before .before .before .before .before .before .before .before .args in
     let v = c .before .before .before .before .before .before .read-path in
     let e : reads (pathOf (v .result .path)) (v .result .next) ≡ readPath (a .s .now) 0 = rw (c .before .before .before .before .if1 .left) at (v .ensures .says) in
-    let t : tailOk (a .s .now) (v .result .next) ≡ true = sym (c .before .before .before .tail-ok .ensures) ∙ c .before .before .if2 .taken in
+    let t : tailOk (a .s .now) (v .result .next) ≡ true = sym (c .before .before .before .ends-at .ensures) ∙ c .before .before .if2 .taken in
     let w : isPath (graphOf (a .g)) (pathOf (v .result .path)) ≡ false = sym (c .before .follow .ensures .joins) ∙ c .if3 .left in
     record { says = rw (← e, t, w); short = v .ensures .short; path = λ q. absurd (omega arith) }
 
@@ -49,7 +49,7 @@ returns-4 c =
     let a = c .before .before .before .before .before .before .args in
     let v = c .before .before .before .before .read-path in
     let e : reads (pathOf (v .result .path)) (v .result .next) ≡ readPath (a .s .now) 0 = rw (c .before .before .if1 .left) at (v .ensures .says) in
-    let t : tailOk (a .s .now) (v .result .next) ≡ false = sym (c .before .tail-ok .ensures) ∙ c .if2 .left in
+    let t : tailOk (a .s .now) (v .result .next) ≡ false = sym (c .before .ends-at .ensures) ∙ c .if2 .left in
     record { says = rw (← e, t); short = v .ensures .short; path = λ q. absurd (omega arith) }
 
 pub judge-path-spec : {M : Type 1} → statement M
@@ -58,7 +58,7 @@ judge-path-spec =
     (tie.spec
     read-path-requires
     returns
-    tail-ok-requires
+    ends-at-requires
     follow-requires
     returns-2
     returns-3

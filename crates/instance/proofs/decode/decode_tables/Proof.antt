@@ -78,8 +78,8 @@ returns-2 c =
     faulty-says (z .args .schema) _ _ (c .faulty2 .ensures)
     (ap judged (values-cut (z .args .schema) (z .pre .0) (z .args .t3) (z .args .s .now) _ (c .before .before .before .before .before .before .before .before .before .before .before .read-columns .ensures) (c .before .before .before .before .read-columns2 .ensures) (c .before .before .before .before .before .before .before .before .if1 .left) (c .before .if2 .taken)))
 
-tail-ok-requires : tie.Need-tail-ok-requires
-tail-ok-requires c κs = search needs
+ends-at-requires : tie.Need-ends-at-requires
+ends-at-requires c κs = search needs
 
 same-length-4 : tie.Need-same-length-4
 same-length-4 c = search needs
@@ -90,7 +90,7 @@ same-length-5 c = search needs
 returns-3 : tie.Need-returns-3
 returns-3 c =
     let z = c .before .before .before .before .before .before .before .before .before .before .before .before .before .before .before .before .before .before .before .before .before .before .before in
-    let t : tailOk (z .args .s .now) (c .before .before .before .before .before .read-columns2 .result .next) ≡ true = sym (c .before .tail-ok .ensures) ∙ c .if3 .taken in
+    let t : tailOk (z .args .s .now) (c .before .before .before .before .before .read-columns2 .result .next) ≡ true = sym (c .before .ends-at .ensures) ∙ c .if3 .taken in
     record {
       says = sym (ap judged (tables-read (z .args .schema) (z .pre .0) (z .args .t3) (z .args .s .now) _ (c .before .before .before .before .before .before .before .before .before .before .before .before .read-columns .ensures) (c .before .before .before .before .before .read-columns2 .ensures) (c .before .before .before .before .before .before .before .before .before .if1 .left) (record { fault = 0; counts = z .args .t3 }) refl (c .before .before .if2 .left) t));
       limits = record { rows = z .pre .3; long = counts-long z };
@@ -108,7 +108,7 @@ same-length-7 c = search needs
 returns-4 : tie.Need-returns-4
 returns-4 c =
     let z = c .before .before .before .before .before .before .before .before .before .before .before .before .before .before .before .before .before .before .before .before .before .before .before .before in
-    let t : tailOk (z .args .s .now) (c .before .before .before .before .before .before .read-columns2 .result .next) ≡ false = sym (c .before .before .tail-ok .ensures) ∙ c .before .if3 .left in
+    let t : tailOk (z .args .s .now) (c .before .before .before .before .before .before .read-columns2 .result .next) ≡ false = sym (c .before .before .ends-at .ensures) ∙ c .before .if3 .left in
     faulty-says (z .args .schema) _ _ (c .faulty3 .ensures)
     (ap judged (tables-tail (z .args .schema) (z .pre .0) (z .args .t3) (z .args .s .now) _ (c .before .before .before .before .before .before .before .before .before .before .before .before .before .read-columns .ensures) (c .before .before .before .before .before .before .read-columns2 .ensures) (c .before .before .before .before .before .before .before .before .before .before .if1 .left) (c .before .before .before .if2 .left) t))
 
@@ -130,7 +130,7 @@ decode-tables-spec =
     same-length-2
     same-length-3
     returns-2
-    tail-ok-requires
+    ends-at-requires
     same-length-4
     same-length-5
     returns-3

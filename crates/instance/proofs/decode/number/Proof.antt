@@ -8,32 +8,32 @@ use Rattle.bits.proofs.Reading.{field-below}
 use Rattle.instance.proofs.decode.number.Statement.{statement}
 use Rattle.instance.proofs.decode.number.Tie as tie
 
-read-field-requires : tie.Need-read-field-requires
-read-field-requires c κs = search needs
+field-at-requires : tie.Need-field-at-requires
+field-at-requires c κs = search needs
 
 cast-result : tie.Need-cast-result
-cast-result c = let a = c .before .before .before .args in omega (arith, c .read-field .ensures, field-below (a .s .now) (a .at) 9)
+cast-result c = let a = c .before .before .before .args in omega (arith, c .field-at .ensures, field-below (a .s .now) (a .at) 9)
 
 returns : tie.Need-returns
-returns c = let a = c .before .before .before .args in c .read-field .ensures ∙ ap (field (a .s .now) (a .at)) (sym (c .before .if1 .taken))
+returns c = let a = c .before .before .before .args in c .field-at .ensures ∙ ap (field (a .s .now) (a .at)) (sym (c .before .if1 .taken))
 
-read-field-requires-2 : tie.Need-read-field-requires-2
-read-field-requires-2 c κs = search needs
+field-at-requires-2 : tie.Need-field-at-requires-2
+field-at-requires-2 c κs = search needs
 
 cast-result-2 : tie.Need-cast-result-2
-cast-result-2 c = let a = c .before .before .before .before .args in omega (arith, c .read-field2 .ensures, field-below (a .s .now) (a .at) 32)
+cast-result-2 c = let a = c .before .before .before .before .args in omega (arith, c .field-at2 .ensures, field-below (a .s .now) (a .at) 32)
 
 returns-2 : tie.Need-returns-2
-returns-2 c = let a = c .before .before .before .before .args in c .read-field2 .ensures ∙ ap (field (a .s .now) (a .at)) (sym (c .before .if2 .taken))
+returns-2 c = let a = c .before .before .before .before .args in c .field-at2 .ensures ∙ ap (field (a .s .now) (a .at)) (sym (c .before .if2 .taken))
 
-read-field-requires-3 : tie.Need-read-field-requires-3
-read-field-requires-3 c κs = search needs
+field-at-requires-3 : tie.Need-field-at-requires-3
+field-at-requires-3 c κs = search needs
 
 cast-result-3 : tie.Need-cast-result-3
 cast-result-3 c =
     let a = c .before .before .before .before .args in
     let m : 2 ^ (a .width) ≤ 2 ^ 32 = pow-mono (c .before .before .before .before .pre .narrow) in
-    omega (arith, c .read-field3 .ensures, field-below (a .s .now) (a .at) (a .width))
+    omega (arith, c .field-at3 .ensures, field-below (a .s .now) (a .at) (a .width))
 
 returns-3 : tie.Need-returns-3
 returns-3 c = search needs
@@ -42,12 +42,12 @@ pub number-spec : {M : Type 1} → statement M
 number-spec =
     tie.close
     (tie.spec
-    read-field-requires
+    field-at-requires
     cast-result
     returns
-    read-field-requires-2
+    field-at-requires-2
     cast-result-2
     returns-2
-    read-field-requires-3
+    field-at-requires-3
     cast-result-3
     returns-3)

@@ -35,13 +35,13 @@ rows-of-requires c κs =
     let t = c .loop-test .taken in
     (omega (arith, C .homes), C .tables (c .before .loop .k) t)
 
-mul-lacks-room : tie.Need-mul-lacks-room Inv-loop μ-loop
-mul-lacks-room c =
+mul-lacks-at : tie.Need-mul-lacks-at Inv-loop μ-loop
+mul-lacks-at c =
     let q = c .before .before .before .before .before .before .before .pre .2 .rows (c .before .before .loop .k) (c .before .loop-test .taken) in
     omega (arith, width-few (c .before .before .before .before .before .before .before .args .width) (c .rows-of .result) (c .before .before .before .before .before .before .before .pre .0) (omega (arith, c .rows-of .ensures)))
 
-lacks-room-requires : tie.Need-lacks-room-requires Inv-loop μ-loop
-lacks-room-requires c κs = search needs
+lacks-at-requires : tie.Need-lacks-at-requires Inv-loop μ-loop
+lacks-at-requires c κs = search needs
 
 same-length : tie.Need-same-length Inv-loop μ-loop
 same-length c = c .before .before .before .before .loop .inv .long
@@ -50,7 +50,7 @@ returns : tie.Need-returns Inv-loop μ-loop
 returns c =
     let a = c .before .before .before .before .before .before .before .before .before .args in
     let l = c .before .before .before .before .loop in
-    let h : 8 * length (a .s .now) < l .p + a .width * c .before .before .rows-of .result = ltb-true _ _ (sym (c .before .lacks-room .ensures) ∙ c .if1 .taken) in
+    let h : 8 * length (a .s .now) < l .p + a .width * c .before .before .rows-of .result = ltb-true _ _ (sym (c .before .lacks-at .ensures) ∙ c .if1 .taken) in
     let g = rw (c .before .before .rows-of .ensures) at h in
     record {
       says = sym (turned-cut (l .inv .so-far) (c .before .before .before .loop-test .taken) (fixed-times (rowsOf (a .home .now) (a .counts .now) (l .k)) (fixed-field (a .width)) .cut (a .s .now) (l .p) (l .inv .inside) g));
@@ -68,7 +68,7 @@ read-column-requires c κs =
     let t = c .before .before .before .before .loop-test .taken in
     let q = c .before .before .before .before .before .before .before .before .before .before .pre .2 .rows (l .k) t in
     let w = width-few (a .width) (c .before .before .before .rows-of .result) (c .before .before .before .before .before .before .before .before .before .before .pre .0) (omega (arith, c .before .before .before .rows-of .ensures)) in
-    let h : l .p + a .width * c .before .before .before .rows-of .result ≤ 8 * length (a .s .now) = ltb-false _ _ (sym (c .before .before .lacks-room .ensures) ∙ c .before .if1 .left) in
+    let h : l .p + a .width * c .before .before .before .rows-of .result ≤ 8 * length (a .s .now) = ltb-false _ _ (sym (c .before .before .lacks-at .ensures) ∙ c .before .if1 .left) in
     let near = l .inv .near in
     let b = c .before .before .before .before .before .before .before .before .before .before .pre .1 .counted in
     (record { narrow = c .before .before .before .before .before .before .before .before .before .before .pre .0; counted = omega arith; within = h }, omega (arith, l .inv .long, c .before .before .before .before .before .before .before .before .before .before .pre .3, c .before .before .before .rows-of .ensures))
@@ -103,7 +103,7 @@ loop-again c =
     let e = c .before .before .before .before .before .before .rows-of .ensures in
     let b = c .before .before .read-column in
     let w = width-few (a .width) (c .before .before .before .before .before .before .rows-of .result) (c .before .before .before .before .before .before .before .before .before .before .before .before .before .pre .0) (omega (arith, C .rows (l .k) t, e)) in
-    let h : l .p + a .width * c .before .before .before .before .before .before .rows-of .result ≤ 8 * length (a .s .now) = ltb-false _ _ (sym (c .before .before .before .before .before .lacks-room .ensures) ∙ c .before .before .before .before .if1 .left) in
+    let h : l .p + a .width * c .before .before .before .before .before .before .rows-of .result ≤ 8 * length (a .s .now) = ltb-false _ _ (sym (c .before .before .before .before .before .lacks-at .ensures) ∙ c .before .before .before .before .if1 .left) in
     let stored = rw e at (b .ensures) in
     record {
       some = omega arith;
@@ -136,8 +136,8 @@ read-columns-spec =
     μ-loop
     loop-holds
     rows-of-requires
-    mul-lacks-room
-    lacks-room-requires
+    mul-lacks-at
+    lacks-at-requires
     same-length
     returns
     mul-read-column

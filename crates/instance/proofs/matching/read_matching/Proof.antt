@@ -11,29 +11,29 @@ use Rattle.instance.proofs.Decoding.{partners-cut, partners-tail, partn
 use Rattle.instance.proofs.matching.read_matching.Statement.{statement}
 use Rattle.instance.proofs.matching.read_matching.Tie as tie
 
-mul-lacks-room : tie.Need-mul-lacks-room
-mul-lacks-room c = search needs
+mul-lacks-at : tie.Need-mul-lacks-at
+mul-lacks-at c = search needs
 
-lacks-room-requires : tie.Need-lacks-room-requires
-lacks-room-requires c κs = search needs
+lacks-at-requires : tie.Need-lacks-at-requires
+lacks-at-requires c κs = search needs
 
 returns : tie.Need-returns
 returns c =
     let a = c .before .before .before .before .args in
-    let h : 8 * length (a .s .now) < 0 + 9 * a .n = ltb-true _ _ (sym (c .before .lacks-room .ensures) ∙ c .if1 .taken) in
+    let h : 8 * length (a .s .now) < 0 + 9 * a .n = ltb-true _ _ (sym (c .before .lacks-at .ensures) ∙ c .if1 .taken) in
     sym (ap judged (partners-cut (a .s .now) (a .n) (omega arith)))
 
 read-column-requires : tie.Need-read-column-requires
 read-column-requires c κs =
     let a = c .before .before .before .before .before .args in
-    let h : 0 + 9 * a .n ≤ 8 * length (a .s .now) = ltb-false _ _ (sym (c .before .before .lacks-room .ensures) ∙ c .before .if1 .left) in
+    let h : 0 + 9 * a .n ≤ 8 * length (a .s .now) = ltb-false _ _ (sym (c .before .before .lacks-at .ensures) ∙ c .before .if1 .left) in
     (record { narrow = omega arith; counted = omega arith; within = h }, omega arith)
 
-mul-tail-ok : tie.Need-mul-tail-ok
-mul-tail-ok c = search needs
+mul-ends-at : tie.Need-mul-ends-at
+mul-ends-at c = search needs
 
-tail-ok-requires : tie.Need-tail-ok-requires
-tail-ok-requires c κs = search needs
+ends-at-requires : tie.Need-ends-at-requires
+ends-at-requires c κs = search needs
 
 same-length : tie.Need-same-length
 same-length c = search needs
@@ -41,8 +41,8 @@ same-length c = search needs
 returns-2 : tie.Need-returns-2
 returns-2 c =
     let a = c .before .before .before .before .before .before .before .before .before .before .args in
-    let h : 0 + 9 * a .n ≤ 8 * length (a .s .now) = ltb-false _ _ (sym (c .before .before .before .before .before .before .before .lacks-room .ensures) ∙ c .before .before .before .before .before .before .if1 .left) in
-    let t : tailOk (a .s .now) (9 * a .n) ≡ true = sym (c .before .tail-ok .ensures) ∙ c .if2 .taken in
+    let h : 0 + 9 * a .n ≤ 8 * length (a .s .now) = ltb-false _ _ (sym (c .before .before .before .before .before .before .before .lacks-at .ensures) ∙ c .before .before .before .before .before .before .if1 .left) in
+    let t : tailOk (a .s .now) (9 * a .n) ≡ true = sym (c .before .ends-at .ensures) ∙ c .if2 .taken in
     sym (ap judged (partners-read (a .s .now) (a .n) (c .before .before .before .before .read-column .ensures) (omega arith) t))
 
 same-length-2 : tie.Need-same-length-2
@@ -51,20 +51,20 @@ same-length-2 c = search needs
 returns-3 : tie.Need-returns-3
 returns-3 c =
     let a = c .before .before .before .before .before .before .before .before .before .before .args in
-    let h : 0 + 9 * a .n ≤ 8 * length (a .s .now) = ltb-false _ _ (sym (c .before .before .before .before .before .before .before .lacks-room .ensures) ∙ c .before .before .before .before .before .before .if1 .left) in
-    let t : tailOk (a .s .now) (9 * a .n) ≡ false = sym (c .before .tail-ok .ensures) ∙ c .if2 .left in
+    let h : 0 + 9 * a .n ≤ 8 * length (a .s .now) = ltb-false _ _ (sym (c .before .before .before .before .before .before .before .lacks-at .ensures) ∙ c .before .before .before .before .before .before .if1 .left) in
+    let t : tailOk (a .s .now) (9 * a .n) ≡ false = sym (c .before .ends-at .ensures) ∙ c .if2 .left in
     sym (ap judged (partners-tail (a .s .now) (a .n) (omega arith) t))
 
 pub read-matching-spec : {M : Type 1} → statement M
 read-matching-spec =
     tie.close
     (tie.spec
-    mul-lacks-room
-    lacks-room-requires
+    mul-lacks-at
+    lacks-at-requires
     returns
     read-column-requires
-    mul-tail-ok
-    tail-ok-requires
+    mul-ends-at
+    ends-at-requires
     same-length
     returns-2
     same-length-2

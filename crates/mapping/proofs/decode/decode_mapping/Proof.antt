@@ -16,7 +16,7 @@ use Rattle.mapping.proofs.decode.decode_mapping.Tie as tie
 
 -- the node images lie in the sheet
 room : (c : tie.Else1) → 4 * c .before .before .before .args .t .graph .nodes ≤ 8 * length (c .before .before .before .args .s .now)
-room c = let h : 0 + 4 * c .before .before .before .args .t .graph .nodes ≤ 8 * length (c .before .before .before .args .s .now) = ltb-false _ _ (sym (c .before .lacks-room .ensures) ∙ c .if1 .left) in omega arith
+room c = let h : 0 + 4 * c .before .before .before .args .t .graph .nodes ≤ 8 * length (c .before .before .before .args .s .now) = ltb-false _ _ (sym (c .before .lacks-at .ensures) ∙ c .if1 .left) in omega arith
 
 -- and the edge images behind them
 images : (c : tie.Else2) → times (c .before .before .before .before .before .args .t .graph .edges) readEdges (c .before .before .before .before .before .args .s .now) (4 * c .before .before .before .before .before .args .t .graph .nodes) ≡ reads (imagesOf (c .before .before .before .before .before .args .t .graph .edges) (c .before .read-images .result .edge)) (c .before .read-images .result .next)
@@ -24,13 +24,13 @@ images c = sym (rw (c .if2 .left) at (c .before .read-images .ensures .says))
 
 -- and the attribute images behind those
 rest : (c : tie.Else3) → c .before .before .before .read-images .result .next + 4 * c .before .before .before .before .before .before .before .args .t .attributes ≤ 8 * length (c .before .before .before .before .before .before .before .args .s .now)
-rest c = ltb-false _ _ (sym (c .before .lacks-room2 .ensures) ∙ c .if3 .left)
+rest c = ltb-false _ _ (sym (c .before .lacks-at2 .ensures) ∙ c .if3 .left)
 
 mul-first : tie.Need-mul-first
 mul-first c = search needs
 
-lacks-room-requires : tie.Need-lacks-room-requires
-lacks-room-requires c κs = search needs
+lacks-at-requires : tie.Need-lacks-at-requires
+lacks-at-requires c κs = search needs
 
 faulty-requires : tie.Need-faulty-requires
 faulty-requires c κs = search needs
@@ -38,7 +38,7 @@ faulty-requires c κs = search needs
 returns : tie.Need-returns
 returns c =
     let a = c .before .before .before .before .args in
-    let h : 8 * length (a .s .now) < 0 + 4 * a .t .graph .nodes = ltb-true _ _ (sym (c .before .before .lacks-room .ensures) ∙ c .before .if1 .taken) in
+    let h : 8 * length (a .s .now) < 0 + 4 * a .t .graph .nodes = ltb-true _ _ (sym (c .before .before .lacks-at .ensures) ∙ c .before .if1 .taken) in
     faulty-decoded (c .faulty .ensures) (ap judged (mapping-short (a .t) (a .s .now) (omega arith)))
 
 read-images-requires : tie.Need-read-images-requires
@@ -56,8 +56,8 @@ returns-2 c =
 mul-last : tie.Need-mul-last
 mul-last c = search needs
 
-lacks-room-requires-2 : tie.Need-lacks-room-requires-2
-lacks-room-requires-2 c κs = search needs
+lacks-at-requires-2 : tie.Need-lacks-at-requires-2
+lacks-at-requires-2 c κs = search needs
 
 faulty-requires-3 : tie.Need-faulty-requires-3
 faulty-requires-3 c κs = search needs
@@ -66,14 +66,11 @@ returns-3 : tie.Need-returns-3
 returns-3 c =
     let a = c .before .before .before .before .before .before .before .before .args in
     let r = c .before .before .before .before .read-images in
-    let h : 8 * length (a .s .now) < r .result .next + 4 * a .t .attributes = ltb-true _ _ (sym (c .before .before .lacks-room2 .ensures) ∙ c .before .if3 .taken) in
+    let h : 8 * length (a .s .now) < r .result .next + 4 * a .t .attributes = ltb-true _ _ (sym (c .before .before .lacks-at2 .ensures) ∙ c .before .if3 .taken) in
     faulty-decoded (c .faulty3 .ensures) (ap judged (mapping-cut (a .t) (a .s .now) (room (c .before .before .before .before .before)) (images (c .before .before .before)) (r .ensures .inside) h))
 
-add-tail-ok : tie.Need-add-tail-ok
-add-tail-ok c = search needs
-
-tail-ok-requires : tie.Need-tail-ok-requires
-tail-ok-requires c κs = search needs
+ends-after-requires : tie.Need-ends-after-requires
+ends-after-requires c κs = search needs
 
 column-requires : tie.Need-column-requires
 column-requires c κs = let h = room (c .before .before .before .before .before .before) in let k = c .before .before .before .before .before .before .before .before .before .pre in record { few = k .nodes; narrow = omega arith; counted = omega arith; within = λ i l. omega arith }
@@ -84,7 +81,7 @@ column-requires-2 c κs = let h = rest (c .before .before .before) in let k = c 
 returns-4 : tie.Need-returns-4
 returns-4 c =
     let a = c .before .before .before .before .before .before .before .before .before .before .before .before .args in
-    let t : tailOk (a .s .now) (c .before .before .before .before .before .before .before .before .read-images .result .next + 4 * a .t .attributes) ≡ true = sym (c .before .before .before .before .tail-ok .ensures) ∙ c .before .before .before .if4 .taken in
+    let t : tailOk (a .s .now) (c .before .before .before .before .before .before .before .before .read-images .result .next + 4 * a .t .attributes) ≡ true = sym (c .before .before .before .before .ends-after .ensures) ∙ c .before .before .before .if4 .taken in
     record {
       says = rw (tabulate-same (a .t .graph .nodes) (c .before .before .column .ensures .each), tabulate-same (a .t .attributes) (c .before .column2 .ensures .each)) (sym (ap judged (mapping-read (a .t) (a .s .now) (room (c .before .before .before .before .before .before .before .before .before)) (images (c .before .before .before .before .before .before .before)) (rest (c .before .before .before .before .before)) t)));
       short = c .before .before .before .before .before .before .before .before .read-images .ensures .short (c .before .before .before .before .before .before .before .if2 .left);
@@ -96,7 +93,7 @@ faulty-requires-4 c κs = search needs
 returns-5 : tie.Need-returns-5
 returns-5 c =
     let a = c .before .before .before .before .before .before .before .before .before .before .args in
-    let t : tailOk (a .s .now) (c .before .before .before .before .before .before .read-images .result .next + 4 * a .t .attributes) ≡ false = sym (c .before .before .tail-ok .ensures) ∙ c .before .if4 .left in
+    let t : tailOk (a .s .now) (c .before .before .before .before .before .before .read-images .result .next + 4 * a .t .attributes) ≡ false = sym (c .before .before .ends-after .ensures) ∙ c .before .if4 .left in
     faulty-decoded (c .faulty4 .ensures) (ap judged (mapping-tail (a .t) (a .s .now) (room (c .before .before .before .before .before .before .before)) (images (c .before .before .before .before .before)) (rest (c .before .before .before)) t))
 
 pub decode-mapping-spec : {M : Type 1} → statement M
@@ -104,18 +101,17 @@ decode-mapping-spec =
     tie.close
     (tie.spec
     mul-first
-    lacks-room-requires
+    lacks-at-requires
     faulty-requires
     returns
     read-images-requires
     faulty-requires-2
     returns-2
     mul-last
-    lacks-room-requires-2
+    lacks-at-requires-2
     faulty-requires-3
     returns-3
-    add-tail-ok
-    tail-ok-requires
+    ends-after-requires
     column-requires
     column-requires-2
     returns-4

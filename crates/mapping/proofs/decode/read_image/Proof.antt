@@ -13,39 +13,39 @@ use Rattle.mapping.proofs.decode.read_image.Tie as tie
 empty-requires : tie.Need-empty-requires
 empty-requires c κs = search needs
 
-lacks-room-requires : tie.Need-lacks-room-requires
-lacks-room-requires c κs = search needs
+lacks-at-requires : tie.Need-lacks-at-requires
+lacks-at-requires c κs = search needs
 
 returns : tie.Need-returns
 returns c =
     let a = c .before .before .before .before in
-    let h : 8 * length (a .args .s .now) < a .args .at + 4 = ltb-true _ _ (sym (c .before .lacks-room .ensures) ∙ c .if1 .taken) in
+    let h : 8 * length (a .args .s .now) < a .args .at + 4 = ltb-true _ _ (sym (c .before .lacks-at .ensures) ∙ c .if1 .taken) in
     record { says = sym (edges-short (a .args .s .now) (a .args .at) (a .pre .inside) h); inside = a .pre .inside; near = omega arith; short = rw (c .before .before .empty .ensures) (omega arith) }
 
 small-requires : tie.Need-small-requires
 small-requires c κs =
     let a = c .before .before .before .before in
-    let h : a .args .at + 4 ≤ 8 * length (a .args .s .now) = ltb-false _ _ (sym (c .before .lacks-room .ensures) ∙ c .if1 .left) in
+    let h : a .args .at + 4 ≤ 8 * length (a .args .s .now) = ltb-false _ _ (sym (c .before .lacks-at .ensures) ∙ c .if1 .left) in
     omega arith
 
 cast-n : tie.Need-cast-n
 cast-n c = search needs
 
-add-lacks-room : tie.Need-add-lacks-room
-add-lacks-room c = search needs
+add-lacks-at : tie.Need-add-lacks-at
+add-lacks-at c = search needs
 
-mul-lacks-room : tie.Need-mul-lacks-room
-mul-lacks-room c = search needs
+mul-lacks-at : tie.Need-mul-lacks-at
+mul-lacks-at c = search needs
 
-lacks-room-requires-2 : tie.Need-lacks-room-requires-2
-lacks-room-requires-2 c κs = search needs
+lacks-at-requires-2 : tie.Need-lacks-at-requires-2
+lacks-at-requires-2 c κs = search needs
 
 returns-2 : tie.Need-returns-2
 returns-2 c =
     let a = c .before .before .before .before .before .before .before in
     let k = c .before .before .small .ensures in
-    let g : a .args .at + 4 ≤ 8 * length (a .args .s .now) = ltb-false _ _ (sym (c .before .before .before .before .lacks-room .ensures) ∙ c .before .before .before .if1 .left) in
-    let h : 8 * length (a .args .s .now) < a .args .at + 4 + 5 * c .before .before .small .result = ltb-true _ _ (sym (c .before .lacks-room2 .ensures) ∙ c .if2 .taken) in
+    let g : a .args .at + 4 ≤ 8 * length (a .args .s .now) = ltb-false _ _ (sym (c .before .before .before .before .lacks-at .ensures) ∙ c .before .before .before .if1 .left) in
+    let h : 8 * length (a .args .s .now) < a .args .at + 4 + 5 * c .before .before .small .result = ltb-true _ _ (sym (c .before .lacks-at2 .ensures) ∙ c .if2 .taken) in
     record { says = sym (edges-cut (a .args .s .now) (a .args .at) g (omega arith)); inside = a .pre .inside; near = omega arith; short = rw (c .before .before .before .before .before .empty .ensures) (omega arith) }
 
 add-column : tie.Need-add-column
@@ -56,7 +56,7 @@ column-requires c κs =
     let a = c .before .before .before .before .before .before .before in
     let k = c .before .before .small .ensures in
     let b = field-below (a .args .s .now) (a .args .at) 4 in
-    let h : a .args .at + 4 + 5 * c .before .before .small .result ≤ 8 * length (a .args .s .now) = ltb-false _ _ (sym (c .before .lacks-room2 .ensures) ∙ c .if2 .left) in
+    let h : a .args .at + 4 + 5 * c .before .before .small .result ≤ 8 * length (a .args .s .now) = ltb-false _ _ (sym (c .before .lacks-at2 .ensures) ∙ c .if2 .left) in
     record { few = omega arith; narrow = omega arith; counted = let g = a .pre .counted in omega arith; within = λ i l. omega arith }
 
 add-t11 : tie.Need-add-t11
@@ -73,7 +73,7 @@ returns-3 c =
     let a = c .before .before .before .before .before .before .before .before in
     let k = c .before .before .before .small .ensures in
     let b = field-below (a .args .s .now) (a .args .at) 4 in
-    let h : a .args .at + 4 + 5 * c .before .before .before .small .result ≤ 8 * length (a .args .s .now) = ltb-false _ _ (sym (c .before .before .lacks-room2 .ensures) ∙ c .before .if2 .left) in
+    let h : a .args .at + 4 + 5 * c .before .before .before .small .result ≤ 8 * length (a .args .s .now) = ltb-false _ _ (sym (c .before .before .lacks-at2 .ensures) ∙ c .before .if2 .left) in
     record {
       says = rw (tabulate-same (c .before .before .before .small .result) (c .column .ensures .each), k) (sym (edges-read (a .args .s .now) (a .args .at) (omega arith)));
       inside = h;
@@ -86,13 +86,13 @@ read-image-spec =
     tie.close
     (tie.spec
     empty-requires
-    lacks-room-requires
+    lacks-at-requires
     returns
     small-requires
     cast-n
-    add-lacks-room
-    mul-lacks-room
-    lacks-room-requires-2
+    add-lacks-at
+    mul-lacks-at
+    lacks-at-requires-2
     returns-2
     add-column
     column-requires

@@ -8,28 +8,22 @@ use Rattle.matching.proofs.turning.copy_tables.Statement.{statement}
 use Rattle.matching.proofs.turning.copy_tables.Tie as tie
 
 abbrev Inv-loop : tie.InvT-loop
-Inv-loop n list out₀ from to c₀ out c = (c ≤ n) × Moved c «from» «to» list out × (length out ≡ length out₀)
+Inv-loop n from list to out₀ c₀ out c = (c ≤ n) × Moved c «from» «to» list out × (length out ≡ length out₀)
 
 abbrev μ-loop : tie.MeasureT-loop
-μ-loop n list out₀ from to c₀ out c = n - c
+μ-loop n from list to out₀ c₀ out c = n - c
 
 loop-holds : tie.Need-loop-holds Inv-loop μ-loop
 loop-holds c = (omega arith, moved-none _ _ _ _, refl)
 
-mul-here : tie.Need-mul-here Inv-loop μ-loop
-mul-here c = omega (arith, c .before .before .before .before .pre .few)
+table-among-requires : tie.Need-table-among-requires Inv-loop μ-loop
+table-among-requires c κs = (c .loop-test .taken, c .before .before .before .before .pre .few)
 
-array-copy-out-here : tie.Need-array-copy-out-here Inv-loop μ-loop
-array-copy-out-here c = omega (arith, c .before .before .before .before .pre .few)
-
-mul-there : tie.Need-mul-there Inv-loop μ-loop
-mul-there c = omega (arith, c .before .before .before .before .before .pre .few)
-
-array-copy-out-there : tie.Need-array-copy-out-there Inv-loop μ-loop
-array-copy-out-there c = omega (arith, c .before .before .before .before .before .pre .few)
+table-among-requires-2 : tie.Need-table-among-requires-2 Inv-loop μ-loop
+table-among-requires-2 c κs = (c .before .loop-test .taken, c .before .before .before .before .before .pre .few)
 
 copy-rows-requires : tie.Need-copy-rows-requires Inv-loop μ-loop
-copy-rows-requires c κs = (c .before .before .before .before .before .before .before .pre .here (c .before .before .before .before .loop .c) (c .before .before .before .loop-test .taken), omega (arith, c .before .before .before .before .before .before .before .pre .there (c .before .before .before .before .loop .c) (c .before .before .before .loop-test .taken), c .before .before .before .before .loop .inv .2))
+copy-rows-requires c κs = rw (c .before .before .table-among .ensures, c .before .table-among2 .ensures) (c .before .before .before .before .before .before .before .pre .here (c .before .before .before .before .loop .c) (c .before .before .before .loop-test .taken), omega (arith, c .before .before .before .before .before .before .before .pre .there (c .before .before .before .before .loop .c) (c .before .before .before .loop-test .taken), c .before .before .before .before .loop .inv .2))
 
 add-c : tie.Need-add-c Inv-loop μ-loop
 add-c c = omega (arith, c .before .before .before .before .before .before .before .before .before .before .pre .few)
@@ -38,7 +32,7 @@ loop-less : tie.Need-loop-less Inv-loop μ-loop
 loop-less c = omega arith
 
 loop-again : tie.Need-loop-again Inv-loop μ-loop
-loop-again c = (omega arith, moved-more (c .before .before .before .before .before .before .before .before .before .before .pre) (c .before .before .before .before .before .before .before .loop .inv .1) (c .before .before .before .before .before .before .loop-test .taken) (c .before .before .copy-rows .ensures), c .before .before .copy-rows .ensures .long ∙ c .before .before .before .before .before .before .before .loop .inv .2)
+loop-again c = let r = rw (c .before .before .before .before .before .table-among .ensures, c .before .before .before .before .table-among2 .ensures) at (c .before .before .copy-rows .ensures) in (omega arith, moved-more (c .before .before .before .before .before .before .before .before .before .before .pre) (c .before .before .before .before .before .before .before .loop .inv .1) (c .before .before .before .before .before .before .loop-test .taken) r, r .long ∙ c .before .before .before .before .before .before .before .loop .inv .2)
 
 same-length : tie.Need-same-length Inv-loop μ-loop
 same-length c = c .before .loop .inv .2
@@ -53,10 +47,8 @@ copy-tables-spec =
     Inv-loop
     μ-loop
     loop-holds
-    mul-here
-    array-copy-out-here
-    mul-there
-    array-copy-out-there
+    table-among-requires
+    table-among-requires-2
     copy-rows-requires
     add-c
     loop-less

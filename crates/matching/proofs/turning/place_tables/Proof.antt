@@ -12,23 +12,20 @@ Inv-loop n node own next₀ places₀ c₀ next places c = Placing n node own ne
 abbrev μ-loop : tie.MeasureT-loop
 μ-loop n node own next₀ places₀ c₀ next places c = n - c
 
-low : (c : tie.After-shared-slice-known Inv-loop μ-loop) → getD (c .before .before .before .args .node .now) (c .before .before .loop .c) 0 < 16
-low c = c .before .before .before .pre .tables (c .before .before .loop .c) (c .before .loop-test .taken)
+low : (c : tie.After-shared-slice-known2 Inv-loop μ-loop) → getD (c .before .before .before .before .args .node .now) (c .before .before .loop .c) 0 < 16
+low c = c .before .before .before .before .pre .tables (c .before .before .loop .c) (c .before .loop-test .taken)
 
 loop-holds : tie.Need-loop-holds Inv-loop μ-loop
 loop-holds c = placing-start _ _ _ _ (search needs) (search needs)
 
 shared-slice-read-d : tie.Need-shared-slice-read-d Inv-loop μ-loop
-shared-slice-read-d c = omega (arith, c .before .before .before .pre .long)
+shared-slice-read-d c = omega (arith, c .before .before .before .before .pre .long)
 
 cast-d : tie.Need-cast-d Inv-loop μ-loop
-cast-d c = omega (arith, c .shared-slice-known .given (c .before .before .loop .c))
+cast-d c = omega (arith, c .shared-slice-known2 .given (c .before .before .loop .c))
 
-mul-table : tie.Need-mul-table Inv-loop μ-loop
-mul-table c = omega (arith, c .before .before .before .pre .few)
-
-array-copy-out-table : tie.Need-array-copy-out-table Inv-loop μ-loop
-array-copy-out-table c = omega (arith, c .before .before .before .pre .few)
+table-among-requires : tie.Need-table-among-requires Inv-loop μ-loop
+table-among-requires c κs = (c .before .loop-test .taken, c .before .before .before .before .pre .few)
 
 mul-here : tie.Need-mul-here Inv-loop μ-loop
 mul-here c = omega (arith, low (c .before))
@@ -37,13 +34,13 @@ array-copy-out-here : tie.Need-array-copy-out-here Inv-loop μ-loop
 array-copy-out-here c = omega (arith, low (c .before), c .before .before .before .loop .inv .next-long)
 
 mul-places : tie.Need-mul-places Inv-loop μ-loop
-mul-places c = omega (arith, c .before .before .before .before .before .pre .few)
+mul-places c = omega (arith, c .before .before .before .before .before .before .pre .few)
 
 array-set-from-places : tie.Need-array-set-from-places Inv-loop μ-loop
-array-set-from-places c = omega (arith, c .before .before .before .before .before .pre .few, c .before .before .before .before .loop .inv .places-long)
+array-set-from-places c = omega (arith, c .before .before .before .before .before .before .pre .few, c .before .before .before .before .loop .inv .places-long)
 
-add-t16 : tie.Need-add-t16 Inv-loop μ-loop
-add-t16 c = omega (arith, place-next (c .before .before .before .before .before .before .loop .inv) (low (c .before .before .before .before)), c .before .before .before .before .before .before .before .pre .within (c .before .before .before .before .before .before .loop .c) (c .before .before .before .before .before .loop-test .taken))
+add-t14 : tie.Need-add-t14 Inv-loop μ-loop
+add-t14 c = rw (c .before .before .before .table-among .ensures) (omega (arith, place-next (c .before .before .before .before .before .before .loop .inv) (low (c .before .before .before .before)), c .before .before .before .before .before .before .before .before .pre .within (c .before .before .before .before .before .before .loop .c) (c .before .before .before .before .before .loop-test .taken)))
 
 mul-next : tie.Need-mul-next Inv-loop μ-loop
 mul-next c = omega (arith, low (c .before .before .before .before))
@@ -52,13 +49,13 @@ array-set-from-next : tie.Need-array-set-from-next Inv-loop μ-loop
 array-set-from-next c = omega (arith, low (c .before .before .before .before), c .before .before .before .before .before .before .loop .inv .next-long)
 
 add-c : tie.Need-add-c Inv-loop μ-loop
-add-c c = omega (arith, c .before .before .before .before .before .before .before .pre .few)
+add-c c = omega (arith, c .before .before .before .before .before .before .before .before .pre .few)
 
 loop-less : tie.Need-loop-less Inv-loop μ-loop
 loop-less c = omega arith
 
 loop-again : tie.Need-loop-again Inv-loop μ-loop
-loop-again c = placing-more (c .before .before .before .before .before .before .loop .inv) (low (c .before .before .before .before)) (c .before .before .before .before .before .loop-test .taken) (c .before .before .before .before .before .before .before .pre .few)
+loop-again c = rw (c .before .before .before .table-among .ensures) (placing-more (c .before .before .before .before .before .before .loop .inv) (low (c .before .before .before .before)) (c .before .before .before .before .before .loop-test .taken) (c .before .before .before .before .before .before .before .before .pre .few))
 
 returns : tie.Need-returns Inv-loop μ-loop
 returns c = record { each = λ k h. c .before .loop .inv .placed .each k (omega (arith, c .loop-test .left)) }
@@ -72,13 +69,12 @@ place-tables-spec =
     loop-holds
     shared-slice-read-d
     cast-d
-    mul-table
-    array-copy-out-table
+    table-among-requires
     mul-here
     array-copy-out-here
     mul-places
     array-set-from-places
-    add-t16
+    add-t14
     mul-next
     array-set-from-next
     add-c

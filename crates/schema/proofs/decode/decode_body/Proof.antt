@@ -21,7 +21,7 @@ few c = limits (countsOf (c .args .c)) (c .pre .1)
 
 -- the edges and the attributes lie in the sheet
 room : (c : tie.Else1) → 22 + 8 * c .before .before .before .before .args .c .edges + 8 * c .before .before .before .before .args .c .attributes ≤ 8 * length (c .before .before .before .before .args .s .now)
-room c = let h : 0 + (22 + 8 * c .before .before .before .before .args .c .edges + 8 * c .before .before .before .before .args .c .attributes) ≤ 8 * length (c .before .before .before .before .args .s .now) = ltb-false _ _ (sym (c .before .lacks-room .ensures) ∙ c .if1 .left) in omega arith
+room c = let h : 0 + (22 + 8 * c .before .before .before .before .args .c .edges + 8 * c .before .before .before .before .args .c .attributes) ≤ 8 * length (c .before .before .before .before .args .s .now) = ltb-false _ _ (sym (c .before .lacks-at .ensures) ∙ c .if1 .left) in omega arith
 
 mul-middle : tie.Need-mul-middle
 mul-middle c = let k = few (c .before .before) in omega arith
@@ -35,8 +35,8 @@ mul-last c = let k = few (c .before .before) in omega arith
 add-last : tie.Need-add-last
 add-last c = let k = few (c .before .before) in omega arith
 
-lacks-room-requires : tie.Need-lacks-room-requires
-lacks-room-requires c κs = search needs
+lacks-at-requires : tie.Need-lacks-at-requires
+lacks-at-requires c κs = search needs
 
 faulty-requires : tie.Need-faulty-requires
 faulty-requires c κs = search needs
@@ -44,7 +44,7 @@ faulty-requires c κs = search needs
 returns : tie.Need-returns
 returns c =
     let a = c .before .before .before .before .before in
-    let h : 8 * length (a .args .s .now) < 0 + (22 + 8 * a .args .c .edges + 8 * a .args .c .attributes) = ltb-true _ _ (sym (c .before .before .lacks-room .ensures) ∙ c .before .if1 .taken) in
+    let h : 8 * length (a .args .s .now) < 0 + (22 + 8 * a .args .c .edges + 8 * a .args .c .attributes) = ltb-true _ _ (sym (c .before .before .lacks-at .ensures) ∙ c .before .if1 .taken) in
     faulty-decoded (c .faulty .ensures) (ap judged (readBody-cut (a .args .s .now) 22 (countsOf (a .args .c)) (a .pre .0) (omega arith)))
 
 read-equations-requires : tie.Need-read-equations-requires
@@ -60,8 +60,8 @@ returns-2 c =
     let r : fails 1 ≡ times (a .args .c .equations) readEquation (a .args .s .now) (22 + 8 * a .args .c .edges + 8 * a .args .c .attributes) = rw (c .before .if2 .taken) at (c .before .before .read-equations .ensures .says) in
     faulty-decoded (c .faulty2 .ensures) (ap judged (readBody-fails (a .args .s .now) 22 (countsOf (a .args .c)) h (sym r)))
 
-tail-ok-requires : tie.Need-tail-ok-requires
-tail-ok-requires c κs = search needs
+ends-at-requires : tie.Need-ends-at-requires
+ends-at-requires c κs = search needs
 
 read-graph-requires : tie.Need-read-graph-requires
 read-graph-requires c κs = let h = room (c .before .before .before .before) in let k = few (c .before .before .before .before .before .before .before .before) in (k .edges, omega arith)
@@ -84,7 +84,7 @@ returns-3 c =
     let g = c .before .before .before .before .read-graph .ensures in
     let s = a .args .s .now in
     let r : reads (equationsOf (a .args .c .equations) (v .result .left) (v .result .right)) (v .result .next) ≡ times (a .args .c .equations) readEquation s (22 + 8 * a .args .c .edges + 8 * a .args .c .attributes) = rw (c .before .before .before .before .before .before .before .if2 .left) at (v .ensures .says) in
-    let t : tailOk s (v .result .next) ≡ true = sym (c .before .before .before .before .before .before .tail-ok .ensures) ∙ c .before .before .before .before .before .if3 .taken in
+    let t : tailOk s (v .result .next) ≡ true = sym (c .before .before .before .before .before .before .ends-at .ensures) ∙ c .before .before .before .before .before .if3 .taken in
     let q = v .ensures .short (c .before .before .before .before .before .before .before .if2 .left) in
     record {
       says = rw (g .nodes, g .says, pairs {A = meaning.Attribute} (λ x y. record { node = x; kind = y }) refl (c .before .before .before .column .ensures) (c .before .before .column2 .ensures))
@@ -102,7 +102,7 @@ returns-4 c =
     let v = c .before .before .before .before .read-equations in
     let s = a .args .s .now in
     let r : reads (equationsOf (a .args .c .equations) (v .result .left) (v .result .right)) (v .result .next) ≡ times (a .args .c .equations) readEquation s (22 + 8 * a .args .c .edges + 8 * a .args .c .attributes) = rw (c .before .before .before .if2 .left) at (v .ensures .says) in
-    let t : tailOk s (v .result .next) ≡ false = sym (c .before .before .tail-ok .ensures) ∙ c .before .if3 .left in
+    let t : tailOk s (v .result .next) ≡ false = sym (c .before .before .ends-at .ensures) ∙ c .before .if3 .left in
     faulty-decoded (c .faulty3 .ensures) (ap judged (readBody-tail s 22 (countsOf (a .args .c)) h (sym r) t))
 
 pub decode-body-spec : {M : Type 1} → statement M
@@ -113,13 +113,13 @@ decode-body-spec =
     add-middle
     mul-last
     add-last
-    lacks-room-requires
+    lacks-at-requires
     faulty-requires
     returns
     read-equations-requires
     faulty-requires-2
     returns-2
-    tail-ok-requires
+    ends-at-requires
     read-graph-requires
     column-requires
     add-column

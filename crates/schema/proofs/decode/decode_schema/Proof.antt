@@ -14,10 +14,10 @@ use Rattle.schema.proofs.decode.decode_schema.Tie as tie
 
 -- the leading counts lie in the sheet
 room : (c : tie.Else1) → 22 ≤ 8 * length (c .before .before .before .args .s .now)
-room c = ltb-false _ _ (sym (c .before .lacks-room .ensures) ∙ c .if1 .left)
+room c = ltb-false _ _ (sym (c .before .lacks-at .ensures) ∙ c .if1 .left)
 
-lacks-room-requires : tie.Need-lacks-room-requires
-lacks-room-requires c κs = search needs
+lacks-at-requires : tie.Need-lacks-at-requires
+lacks-at-requires c κs = search needs
 
 faulty-requires : tie.Need-faulty-requires
 faulty-requires c κs = search needs
@@ -25,7 +25,7 @@ faulty-requires c κs = search needs
 returns : tie.Need-returns
 returns c =
     let s = c .before .before .before .before .args .s .now in
-    let h : 8 * length s < 0 + 22 = ltb-true _ _ (sym (c .before .before .lacks-room .ensures) ∙ c .before .if1 .taken) in
+    let h : 8 * length s < 0 + 22 = ltb-true _ _ (sym (c .before .before .lacks-at .ensures) ∙ c .before .if1 .taken) in
     faulty-decoded (c .faulty .ensures) (ap judged (schema-short s h))
 
 read-counts-requires : tie.Need-read-counts-requires
@@ -56,7 +56,7 @@ pub decode-schema-spec : {M : Type 1} → statement M
 decode-schema-spec =
     tie.close
     (tie.spec
-    lacks-room-requires
+    lacks-at-requires
     faulty-requires
     returns
     read-counts-requires
