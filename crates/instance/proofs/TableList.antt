@@ -5,6 +5,7 @@ use mathlib.Core.List.{List, _∷_}
 use native.Mathlib.Omega.{arith}
 use lib.ListN.{getD}
 use Rattle.theory.specs.Numbering.{tabulate}
+use Rattle.theory.proofs.Numbering.{tabulate-getD}
 use Rattle.meaning.specs.Lists.{sumOf}
 use Rattle.meaning.specs.Formats as meaning
 use Rattle.meaning.specs.Formats.{tablesFrom}
@@ -28,3 +29,14 @@ pub laid : (counts : List ℕ) (n : ℕ) (l : List Table) → ((c : ℕ) → c <
 laid counts n l h =
     tabulate-same {A = meaning.Table} n (λ c m. ap tableOf (h c m) ∙ ap (λ (x : ℕ). record { first = x; count = getD counts c 0 }) (omega arith))
     ∙ sym (tables-from 0 n (λ c. getD counts c 0))
+
+-- and each table of a list that is laid out is the one of these counts
+pub laid-at : (counts : List ℕ) (n : ℕ) (l : List Table) → tableListOf n l ≡ tablesFrom 0 (firstOf n counts) → (c : ℕ) → c < n → getD l c noTable ≡ tableAt counts c
+laid-at counts n l e c m =
+    let none = tableOf noTable in
+    let same : tableOf (getD l c noTable) ≡ record { first = 0 + sumOf (firstOf c counts); count = getD counts c 0 } =
+    sym (tabulate-getD {A = meaning.Table} n (λ k. tableOf (getD l k noTable)) none c m)
+    ∙ ap (λ (xs : List meaning.Table). getD xs c none) (e ∙ tables-from 0 n (λ k. getD counts k 0))
+    ∙ tabulate-getD {A = meaning.Table} n (λ k. record { first = 0 + sumOf (firstOf k counts); count = getD counts k 0 }) none c m
+    in
+    ap (λ (x : meaning.Table). record { first = x .first; count = x .count }) same ∙ ap (λ (x : ℕ). record { first = x; count = getD counts c 0 }) (omega arith)

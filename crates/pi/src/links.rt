@@ -1,7 +1,8 @@
 // Links of Pi's tables: a row of an edge's source, restricted to the components of its target, is found among the target's rows.
 use crate::components::Components;
 use crate::components::place;
-use instance::decode;
+use instance::tables::layout;
+use instance::tables::table_among;
 use schema::Graph;
 use schema::Paths;
 use schema::numbers::index;
@@ -154,9 +155,12 @@ pub fn block_at(counts: &[u32], k: Components, d: usize) -> Block
     requires { ⌜ (d < 16) × (length (now counts) ≡ 16) ⌝ }
     ensures { λ r. ⌜ r ≡ blockOf (now (counts .entry)) (k .count) d ⌝ }
 {
+    let n = d + 1;
+    let tables = layout(counts, n);
+    let table = table_among(tables, n, d);
     Block {
-        first: decode::total(counts, d),
-        count: decode::wide(counts[d]),
+        first: table.first,
+        count: table.count,
         width: k.count[d],
     }
 }

@@ -1,36 +1,34 @@
+use Prim.Native.Nat.{_+_}
+use mathlib.Core.Path.{_≡_, _∙_}
+use native.Mathlib.Omega.{arith}
 use borrow.Author.Needs.{needs}
+use Rattle.instance.proofs.TableList.{tableAt, laid-at}
 use Rattle.pi.proofs.links.block_at.Statement.{statement}
 use Rattle.pi.proofs.links.block_at.Tie as tie
 
-total-requires : tie.Need-total-requires
-total-requires c κs = search needs
+add-n : tie.Need-add-n
+add-n c = search needs
 
-mul-wide : tie.Need-mul-wide
-mul-wide c = search needs
+layout-requires : tie.Need-layout-requires
+layout-requires c κs = search needs
 
-shared-slice-read-wide : tie.Need-shared-slice-read-wide
-shared-slice-read-wide c = search needs
+table-among-requires : tie.Need-table-among-requires
+table-among-requires c κs = search needs
 
-wide-requires : tie.Need-wide-requires
-wide-requires c κs = search needs
+mul-t8 : tie.Need-mul-t8
+mul-t8 c = search needs
 
-mul-t10 : tie.Need-mul-t10
-mul-t10 c = search needs
-
-element-copy-out-t13 : tie.Need-element-copy-out-t13
-element-copy-out-t13 c = search needs
+element-copy-out-t11 : tie.Need-element-copy-out-t11
+element-copy-out-t11 c = search needs
 
 returns : tie.Need-returns
-returns c = rw (c .before .before .before .total .ensures, c .before .wide .ensures)
+returns c =
+    let a = c .before .before .before .before .args in
+    let l = c .before .before .layout in
+    let e : c .before .table-among .result ≡ tableAt (a .counts .now) (a .d) = c .before .table-among .ensures ∙ laid-at (a .counts .now) (a .d + 1) (l .result) (l .ensures) (a .d) (omega arith) in
+    rw e
 
 pub block-at-spec : {M : Type 1} → statement M
 block-at-spec =
     tie.close
-    (tie.spec
-    total-requires
-    mul-wide
-    shared-slice-read-wide
-    wide-requires
-    mul-t10
-    element-copy-out-t13
-    returns)
+    (tie.spec add-n layout-requires table-among-requires mul-t8 element-copy-out-t11 returns)
