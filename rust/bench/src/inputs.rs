@@ -5,6 +5,7 @@ use vectors::base::*;
 use vectors::build::*;
 use vectors::call::{Call, Case};
 use vectors::limits::{full_schema, longest};
+use vectors::puzzles::complete_graph;
 
 /// A tray that holds every instance sheet.
 const TRAY: usize = 51_220;
@@ -185,5 +186,7 @@ fn worst() -> Vec<Case> {
         check("loops_at_one_node", graph(1, &[(0, 0); 32])),
         check("two_nodes_both_ways", graph(2, &both)),
         Case::new("worst.pairs", Call::Pi, pairs).with_tray(TRAY),
+        Case { name: "worst.no_colouring".into(), ..complete_graph(5, 4, 4) },
+        Case { name: "worst.many_colourings".into(), ..complete_graph(4, 4, 6) },
     ]
 }

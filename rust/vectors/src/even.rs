@@ -16,7 +16,7 @@ use reference::plain::*;
 /// An accepted even mapping.  Some edges of T equal longer paths and have no
 /// edge of S over them; some edges of S lie over longer paths.
 pub fn even_mapping(random: &mut Random) -> Mapped {
-    let plain = random.once_in(3);
+    let (plain, composites) = (random.once_in(4), random.once_in(2));
     loop {
         let mut t = if plain { graph(random, 3, 4) } else { woven(random, 5, 3) };
         add_attributes(random, &mut t, 2);
@@ -24,12 +24,14 @@ pub fn even_mapping(random: &mut Random) -> Mapped {
         let follows =
             |p: &Path| -> Vec<usize> { (0..k.rows[p.start]).map(|row| k.follow(p, row)).collect() };
         add_equations(random, &mut t, 3, |p, q| follows(p) == follows(q));
-        let bare = if random.once_in(4) { None } else { add_composite(random, &mut t, &mut k) };
+        let bare = if plain { None } else { add_composite(random, &mut t, &mut k) };
         if k.total_rows() == 0 || k.total_rows() > Schema::MOST_NODES || !is_accepted(&t) {
             continue;
         }
         let mut elements = Elements::over(random, t, &k, bare);
-        elements.add_composites(random, &k);
+        if composites {
+            elements.add_composites(random, &k);
+        }
         if elements.mapped.is_accepted() {
             return elements.mapped;
         }

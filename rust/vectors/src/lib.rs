@@ -4,7 +4,7 @@
 //! - [`schemas`], [`instances`], [`mappings`], [`even`] make sheets that are
 //!   accepted, [`world`] sets of them that fit together;
 //! - [`damage`] makes one sheet of such a set one that is sent back;
-//! - [`papers`], [`limits`], [`stream`] are the cases, [`record`] the vector
+//! - [`papers`], [`limits`], [`puzzles`], [`stream`] are the cases, [`record`] the vector
 //!   file and [`report`] their count by outcome.
 
 #![forbid(unsafe_code)]
@@ -20,6 +20,7 @@ pub mod instances;
 pub mod limits;
 pub mod mappings;
 pub mod papers;
+pub mod puzzles;
 pub mod random;
 pub mod record;
 pub mod report;

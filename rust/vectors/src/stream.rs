@@ -7,6 +7,7 @@ use crate::damage::Damage;
 use crate::even::{even_mapping, uneven_mapping, Unevenness};
 use crate::instances::instance;
 use crate::mappings::mapping;
+use crate::puzzles::any_colourings;
 use crate::random::Random;
 use crate::world::{Sheet, World};
 use reference::{migrate, refusal, Refusal};
@@ -149,7 +150,7 @@ fn accepted(random: &mut Random, call: Call) -> (Case, usize) {
 }
 
 /// Cases by chance, without end: for each world every call on its sheets as they
-/// are and on damaged ones.
+/// are and on damaged ones, and for each tenth a puzzle for Pi.
 pub struct Chance {
     random: Random,
     worlds: u64,
@@ -169,6 +170,11 @@ impl Chance {
         let generators = *random.one_of(&[1, 2, 2, 3, 3, 4, 4, 6, 12, 40]);
         let world = World::any(random, generators);
         let mut cases = Vec::new();
+        if self.worlds.is_multiple_of(10) {
+            let puzzle = any_colourings(random);
+            let tray = some_tray(random, &puzzle);
+            cases.push(puzzle.with_tray(tray));
+        }
         for call in Call::ALL {
             let lent = world.lent(random, call);
             let name = |what: &str| format!("world {}, {what}", self.worlds);

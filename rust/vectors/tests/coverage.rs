@@ -188,6 +188,8 @@ fn limits_are_met_on_both_sides() {
     check(Call::PushedToRaw, together, &[full, over, over, over, full, refused(16, 0)]);
     let uneven = refused(12, 0);
     check(Call::Sigma, "lifts of two and three edges", &[uneven, uneven, full]);
+    // No colouring with 3 colours of 4 vertices; 24 with 4, and 24 to the 6th.
+    check(Call::Pi, "colourings", &[full, full, over]);
     check(Call::CheckInstance, "the longest instance", &[full]);
     check(Call::CheckInstance, "the longest, cut", &[refused(1, 2)]);
     check(Call::CheckInstance, "the longest, dangling", &[refused(9, 2)]);
