@@ -8,7 +8,6 @@ use lib.ListN.{length, getD}
 use lib.Seq.{ext-getD}
 use lib.Dec.{leb}
 use borrow.Author.Tests.{leb-true}
-use Rattle.bits.specs.Field as bits
 use Rattle.bits.specs.Pack.{values}
 use Rattle.meaning.specs.Lists.{sumOf}
 use Rattle.meaning.specs.Schema.{Schema, source, target, attributeAt}

@@ -3,7 +3,7 @@
 --     opens            the lifetime's token ∗ what a slice owns  ⊢  what `open_at` asks ∗ what the slice owns
 --     opened           of what `open_at` ensures, the fact alone
 -- Assumes `Given`.
-use Rattle.bits.proofs.Walk.{_≡_, refl, List, [], _∷_, length, URA, named, erased, w64, Val, vint, SProp, ent, sep, snd∗, exE, Lft, Share, Fml, ftrue, flft, Memory, Routine, Heap, Atoms, sem, Lfts, Fun, fact, Given, ‵, raw, _⊛_, given, ⋆, _$_, _∵_, !, qed, by, move, drop, use1, use2, split, join, learn, fjoin, frame, done, RattleType, owns, Is, uint-makes, u8, usize, RefT, NamedLft, namedLft, sliceVal, ShrSlice, shr-slice-copy, nothing, owned, Declared, all-own, ownAt, rest, own-open, own-out, Values, Contract, ensured, lasts, Vals, tripleOf}
+use Rattle.bits.proofs.Walk.{_≡_, refl, List, [], _∷_, length, URA, named, erased, w64, Val, vint, SProp, ent, sep, snd∗, exE, Lft, Share, Fml, ftrue, flft, Memory, Routine, Heap, Atoms, sem, Lfts, Fun, fact, Given, ‵, raw, _⊛_, given, ⋆, _$_, _∵_, !, qed, move, drop, use1, use2, split, join, learn, fjoin, frame, done, RattleType, owns, Is, uint-makes, u8, usize, RefT, NamedLft, namedLft, sliceVal, ShrSlice, shr-slice-copy, nothing, owned, Declared, all-own, ownAt, rest, own-open, own-out, Values, Contract, ensured, lasts, Vals, tripleOf}
 use Prim.Native.Nat.{ℕ, _<_, _^_}
 use denote.Struct.Laws as LL
 use Rattle.bits.specs.declared.reader.Reader.{Reader}

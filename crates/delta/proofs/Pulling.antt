@@ -1,13 +1,12 @@
 -- Delta of decoded tables: its counts, and its links and values column by column.
-use Prim.Native.Nat.{ℕ, zero, suc, _+_, _*_, _≤_, _<_}
-use mathlib.Core.Path.{_≡_, refl, sym, ap, ap₂, _∙_}
+use Prim.Native.Nat.{ℕ, zero, suc, _*_, _≤_, _<_}
+use mathlib.Core.Path.{_≡_, refl, sym, ap, _∙_}
 use mathlib.Core.Bool.{true}
 use mathlib.Core.List.{List, [], _∷_, map}
 use native.Mathlib.Omega.{arith}
 use native.Mathlib.Nat.{le-trans}
 use lib.ListN.{length, getD}
 use Rattle.theory.specs.Numbering.{tabulate}
-use Rattle.theory.specs.Instance as theory
 use Rattle.theory.proofs.Numbering.{tabulate-getD}
 use Rattle.meaning.specs.Lists.{upto, sumOf}
 use Rattle.meaning.specs.Schema.{source}
@@ -23,14 +22,13 @@ use Rattle.mapping.specs.declared.Mapping.{Mapping}
 use Rattle.mapping.specs.Decoded.{mappingOf}
 use Rattle.mapping.proofs.Viewing.{node-at, edge-at, attribute-at, attributes-count}
 use Rattle.instance.specs.declared.Instance.{Instance}
-use Rattle.instance.specs.Decoded.{firstOf, rowsOf, columnOf, columnsOf, tablesOf, Columns, Limits}
-use Rattle.instance.specs.Followed.{linkIn}
+use Rattle.instance.specs.Decoded.{rowsOf, columnOf, columnsOf, tablesOf, Columns, Limits}
 use Rattle.instance.proofs.Columns.{upto-tabulate, sumOf-part}
 use Rattle.instance.proofs.SoundSchema.{source-in, home-in}
 use Rattle.instance.proofs.Following.{count-at, Led, led}
 use Rattle.delta.specs.Stored.{Counts, ColumnsStored}
 use Rattle.delta.specs.Pulled.{Fitting, EdgeImages, edgesOver, imageRow, AttributeImages, imageValue, deltaOf, Counted, Pulled}
-use Rattle.delta.proofs.Images.{node-in, source-is, edge-joins, end-in, attribute-fits}
+use Rattle.delta.proofs.Images.{node-in, edge-joins, end-in, attribute-fits}
 
 -- ---- a list given number by number
 map-tabulate : {A B : Type 0} (h : A → B) (n : ℕ) (f : ℕ → A) → map h (tabulate n f) ≡ tabulate n (λ i. h (f i))

@@ -1,7 +1,7 @@
 -- The tests of an instance over its working arrays, and links followed there.
 use Prim.Native.Nat.{ℕ, zero, suc, _+_, _*_, _≤_, _<_}
 use mathlib.Core.Path.{_≡_, refl, sym, ap, ap₂, _∙_}
-use mathlib.Core.Bool.{Bool, true, false, _&&_}
+use mathlib.Core.Bool.{Bool, true, _&&_}
 use mathlib.Core.List.{List, [], _∷_}
 use native.Mathlib.Omega.{arith}
 use native.Mathlib.Nat.{le-trans}
@@ -16,18 +16,18 @@ use Rattle.meaning.specs.Lists.{upto, all}
 use Rattle.meaning.specs.Schema.{Attribute, Equation, attributeAt, source, target, joins}
 use Rattle.meaning.specs.Formats.{Instance, inRange}
 use Rattle.meaning.specs.Views.{count, column, follow, rows}
-use Rattle.meaning.specs.Judge.{linksInRange, valuesInRange, obeysEquations}
-use Rattle.meaning.proofs.Tabulate.{and-both, all-at, tabulate-same}
+use Rattle.meaning.specs.Judge.{linksInRange, valuesInRange}
+use Rattle.meaning.proofs.Tabulate.{and-both, all-at}
 use Rattle.schema.specs.declared.Schema.{Schema}
 use Rattle.schema.specs.Decoded.{graphOf, pathOf, noPath, equationOf, schemaOf}
 use Rattle.schema.specs.Judged.{Sound}
 use Rattle.schema.proofs.GraphEdges.{edges-count, source-at, target-at}
 use Rattle.instance.specs.declared.Instance as declared
-use Rattle.instance.specs.Decoded.{firstOf, rowsOf, columnOf, columnsOf, tablesOf, Limits}
+use Rattle.instance.specs.Decoded.{rowsOf, columnOf, tablesOf, Limits}
 use Rattle.instance.specs.Tested.{linkTest, valueTest}
 use Rattle.instance.specs.Followed.{linkIn, Stays, Followable, agreeOn}
 use Rattle.instance.proofs.Columns.{upto-tabulate, sumOf-part}
-use Rattle.instance.proofs.SoundSchema.{source-in, target-in, home-in, sides-at}
+use Rattle.instance.proofs.SoundSchema.{source-in, target-in, sides-at}
 
 module _ {A B : Type 0} where
   -- a test of each of n things goes by what it says of each

@@ -1,11 +1,11 @@
 -- From a sheet that was read to the judged instance.
-use Prim.Native.Nat.{ℕ, suc, _<_}
-use mathlib.Core.Path.{_≡_, refl, sym, ap, _∙_}
-use mathlib.Core.Bool.{Bool, true, false}
+use Prim.Native.Nat.{ℕ, suc}
+use mathlib.Core.Path.{_≡_, sym, ap}
+use mathlib.Core.Bool.{true, false}
 use mathlib.Core.List.{List}
 use native.Mathlib.Omega.{arith}
 use borrow.Author.Tests.{eq-eqb, ne-eqb}
-use Rattle.meaning.specs.Sheet.{Judged, faulty, sound, onSheet}
+use Rattle.meaning.specs.Sheet.{Judged, faulty, onSheet}
 use Rattle.meaning.specs.Formats as formats
 use Rattle.meaning.specs.Formats.{kinds, readInstance}
 use Rattle.meaning.specs.Judge.{_>>=_, linksInRange, valuesInRange, obeysEquations, judgeInstance}
@@ -13,7 +13,7 @@ use Rattle.schema.specs.declared.Schema.{Schema}
 use Rattle.schema.specs.Decoded.{schemaOf}
 use Rattle.instance.specs.declared.Instance.{Instance}
 use Rattle.instance.specs.Decoded.{tablesOf, emptyInstance, Says, Limits}
-use Rattle.instance.specs.Tested.{testInstance, Accepted, Tested}
+use Rattle.instance.specs.Tested.{testInstance, Tested}
 use Rattle.instance.proofs.Decoding.{faulty-says}
 
 pub faulty-tested : (t : Schema) {i : Instance} (links values : List ℕ) {k : ℕ} {J : Judged formats.Instance} → i ≡ emptyInstance (suc k) → J ≡ faulty (suc k) → Tested t i links values J

@@ -1,9 +1,9 @@
 -- Laws of writing: fields of one width one by one, columns one by one, and the whole sheet.
-use Prim.Native.Nat.{ℕ, zero, suc, _+_, _*_, _≤_, _<_}
+use Prim.Native.Nat.{ℕ, zero, suc, _+_, _*_}
 use mathlib.Core.Path.{_≡_, refl, sym, ap, ap₂, _∙_}
-use mathlib.Core.List.{List, [], _∷_, _++_, map, map-append, append-assoc, append-nil}
+use mathlib.Core.List.{List, [], _∷_, _++_, map-append, append-assoc, append-nil}
 use native.Mathlib.Omega.{arith}
-use native.Mathlib.Nat.{mul-suc, mul-zero, mul-add, mul-le-mul-left, zero-add, add-assoc}
+use native.Mathlib.Nat.{mul-suc, mul-zero, mul-add, zero-add}
 use native.Mathlib.Numerals.{add-one}
 use lib.ListN.{length, drop, getD, replicate}
 use Rattle.bits.specs.Pack.{bytesFor, totalWidth, pack}
@@ -11,7 +11,7 @@ use Rattle.bits.specs.Put.{put, putAll}
 use Rattle.bits.proofs.Writing.{putAll-append}
 use Rattle.bits.proofs.Packing.{length-pack, totalWidth-append, putAll-pack}
 use Rattle.theory.specs.Numbering.{tabulate}
-use Rattle.meaning.specs.Lists.{sumOf, concatMap}
+use Rattle.meaning.specs.Lists.{concatMap}
 use Rattle.meaning.specs.Formats.{fieldsOf, instanceSheet, matchingSheet}
 use Rattle.meaning.proofs.Tabulate.{tabulate-more, tabulate-same}
 use Rattle.schema.specs.declared.Schema.{Schema}

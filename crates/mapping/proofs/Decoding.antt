@@ -1,6 +1,6 @@
 -- What the reader of a mapping sheet gives, part by part, and a sheet sent back.
 use Prim.Native.Nat.{ℕ, zero, suc, _+_, _*_, _<_, _≤_}
-use mathlib.Core.Path.{_≡_, refl, sym, ap, _∙_}
+use mathlib.Core.Path.{_≡_, refl, ap, _∙_}
 use mathlib.Core.Bool.{true, false}
 use mathlib.Core.List.{List}
 use native.Mathlib.Omega.{arith}
@@ -9,8 +9,7 @@ use lib.ListN.{length, getD, replicate}
 use Rattle.bits.specs.Field as bits
 use Rattle.theory.specs.Numbering.{tabulate}
 use Rattle.theory.proofs.Numbering.{tabulate-length}
-use Rattle.meaning.specs.Sheet.{Judged, faulty, Read, fails, reads, judged, times, field}
-use Rattle.meaning.specs.Schema as meaning
+use Rattle.meaning.specs.Sheet.{Judged, faulty, fails, reads, times, field}
 use Rattle.meaning.specs.Formats.{Mapping, readEdges, readMapping}
 use Rattle.meaning.proofs.Reading.{fixed-field, fixed-times}
 use Rattle.schema.specs.declared.Schema.{Schema}

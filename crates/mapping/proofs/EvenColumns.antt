@@ -1,16 +1,16 @@
 -- The attributes' part of evenness by arrays, and both parts together.
 use Prim.Native.Nat.{ℕ, _<_}
-use mathlib.Core.Path.{_≡_, refl, sym, ap, _∙_}
+use mathlib.Core.Path.{_≡_, sym, ap, _∙_}
 use mathlib.Core.Bool.{Bool, true, cond, _&&_}
 use mathlib.Core.List.{List}
 use lib.ListN.{length, getD}
 use lib.Dec.{eqb}
 use Rattle.meaning.specs.Lists.{upto, all}
 use Rattle.meaning.specs.Schema as meaning
-use Rattle.meaning.specs.Schema.{attributeAt, pathsFrom}
+use Rattle.meaning.specs.Schema.{attributeAt}
 use Rattle.meaning.specs.Formats as formats
 use Rattle.meaning.specs.Views.{nodeImage}
-use Rattle.meaning.specs.Evenness.{lifts, oneClass, attributesAt, attributesOver, evenAt, even}
+use Rattle.meaning.specs.Evenness.{attributesAt, attributesOver, evenAt, even}
 use Rattle.schema.specs.declared.Schema.{Schema}
 use Rattle.schema.specs.declared.Paths.{Paths}
 use Rattle.schema.specs.Decoded.{schemaOf}

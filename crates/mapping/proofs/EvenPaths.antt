@@ -1,11 +1,11 @@
 -- The paths' part of evenness, by the tables of paths: each class over a class of T is the class of all paths over it, and each path of T has one.
-use Prim.Native.Nat.{ℕ, _<_, _≤_}
+use Prim.Native.Nat.{ℕ, _<_}
 use mathlib.Core.Path.{_≡_, refl, sym, ap, _∙_, subst}
 use mathlib.Core.Bool.{Bool, true, false, not, cond, _&&_}
 use mathlib.Core.List.{List, [], _∷_, List·Memᴰ, List·Memᴰ·head, List·Memᴰ·tail, List·Memᴰ·not-nil, List·Memᴰ·cases-cons}
 use mathlib.Core.Logic.{_⊎_, inl, inr}
 use native.Mathlib.Omega.{arith}
-use borrow.Author.Tests.{eq-eqb, ne-eqb, eqb-true, eqb-false}
+use borrow.Author.Tests.{eq-eqb, eqb-true}
 use lib.ListN.{getD}
 use lib.Dec.{eqb}
 use Rattle.theory.specs.Schema.{IsPath}
@@ -29,7 +29,7 @@ use Rattle.schema.specs.Table.{Filled}
 use Rattle.schema.specs.Classes.{IsPaths}
 use Rattle.mapping.specs.declared.Mapping.{Mapping}
 use Rattle.mapping.specs.Decoded.{mappingOf}
-use Rattle.mapping.specs.Judged.{Schemas, Imageable, Sound, imageNumber, sideClass}
+use Rattle.mapping.specs.Judged.{Schemas, Imageable, Sound, sideClass}
 use Rattle.mapping.specs.Even.{liftClasses, agreesAt, metAt, evenPathsAt}
 use Rattle.mapping.proofs.Viewing.{node-at}
 use Rattle.mapping.proofs.Imaging.{image-path, image-below}

@@ -1,18 +1,15 @@
 -- Refusal 7 by the arrays of a decoded mapping.
-use Prim.Native.Nat.{ℕ, _<_, _≤_}
-use mathlib.Core.Path.{_≡_, refl, sym, ap, _∙_}
+use Prim.Native.Nat.{ℕ, _<_}
+use mathlib.Core.Path.{_≡_, refl}
 use mathlib.Core.Bool.{Bool, true, false, _&&_}
-use mathlib.Core.List.{List}
-use native.Mathlib.Omega.{arith}
-use borrow.Author.Tests.{ltb-true, ltb-false, lt-ltb}
-use lib.ListN.{length, getD}
+use borrow.Author.Tests.{ltb-true}
+use lib.ListN.{getD}
 use lib.Dec.{ltb, eqb}
 use Rattle.theory.specs.Schema.{endpoint}
 use Rattle.meaning.specs.Lists.{upto, all}
-use Rattle.meaning.specs.Schema.{Attribute, source, target, joins, attributeAt}
+use Rattle.meaning.specs.Schema.{source, target, joins, attributeAt}
 use Rattle.meaning.specs.Judge.{edgeImageFits, attributeImageFits, imagesFit}
-use Rattle.meaning.specs.Views.{nodeImage, edgeImage, attributeImage}
-use Rattle.meaning.proofs.Tabulate.{and-both, all-at}
+use Rattle.meaning.proofs.Tabulate.{all-at}
 use Rattle.schema.specs.declared.Graph.{Graph}
 use Rattle.schema.specs.declared.Schema.{Schema}
 use Rattle.schema.specs.Decoded.{graphOf, schemaOf}

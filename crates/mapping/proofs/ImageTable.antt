@@ -1,14 +1,10 @@
 -- The table of images, path by path.
-use Prim.Native.Nat.{ℕ, _+_, _<_, _≤_}
-use mathlib.Core.Path.{_≡_, refl, sym, ap, _∙_, subst}
-use mathlib.Core.Bool.{true, false}
+use Prim.Native.Nat.{ℕ, _<_, _≤_}
+use mathlib.Core.Path.{_≡_, sym, _∙_}
 use mathlib.Core.List.{List}
 use native.Mathlib.Omega.{arith}
 use lib.ListN.{length, getD}
-use Rattle.meaning.specs.Schema as meaning
-use Rattle.meaning.specs.Formats as formats
-use Rattle.meaning.specs.Views.{edgeImage}
-use Rattle.agreement.proofs.Paths.{WellFormed, pathCount}
+use Rattle.agreement.proofs.Paths.{WellFormed}
 use Rattle.schema.specs.declared.Schema.{Schema}
 use Rattle.schema.specs.declared.Paths.{Paths}
 use Rattle.schema.specs.Decoded.{graphOf, schemaOf}
@@ -19,10 +15,10 @@ use Rattle.schema.specs.PathWalks.{walkFrom, WalkIn}
 use Rattle.schema.proofs.GraphEdges.{edges-count}
 use Rattle.schema.proofs.EquationPairs.{table-index}
 use Rattle.mapping.specs.declared.Mapping.{Mapping}
-use Rattle.mapping.specs.Decoded.{imageOf, noImage, mappingOf, Short}
+use Rattle.mapping.specs.Decoded.{imageOf, noImage, mappingOf}
 use Rattle.mapping.specs.Judged.{Imageable, imageNumber}
 use Rattle.mapping.proofs.Viewing.{node-at, edge-at}
-use Rattle.mapping.proofs.Imaging.{Fits, fits, Next, image-trivial, image-next, image-below}
+use Rattle.mapping.proofs.Imaging.{Fits, fits, image-trivial, image-next, image-below}
 
 pub formed : {s : Schema} → Sound s → WellFormed (schemaOf s)
 formed h = record { fits = h .well-formed; acyclic = h .acyclic }

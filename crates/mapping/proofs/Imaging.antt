@@ -1,7 +1,7 @@
 -- Images of paths: they are paths of T, and their numbers are found along the table of T's paths.
 use Prim.Native.Nat.{ℕ, _+_, _<_, _≤_}
-use mathlib.Core.Path.{_≡_, refl, sym, ap, _∙_, subst}
-use mathlib.Core.Bool.{true, false, _&&_}
+use mathlib.Core.Path.{_≡_, refl, sym, ap, _∙_}
+use mathlib.Core.Bool.{true, _&&_}
 use mathlib.Core.List.{List, [], _∷_, _++_, append-nil, List·Memᴰ}
 use native.Mathlib.Omega.{arith}
 use borrow.Author.Tests.{ltb-true, lt-ltb, eqb-true}
@@ -26,9 +26,9 @@ use Rattle.schema.specs.Table.{Index}
 use Rattle.schema.specs.PathWalks.{walkFrom, WalkIn}
 use Rattle.schema.proofs.PathNumbers.{trivial-at, trivial-count}
 use Rattle.schema.proofs.PathParents.{parents}
-use Rattle.schema.proofs.PathWalks.{Reached, walk-reaches}
+use Rattle.schema.proofs.PathWalks.{walk-reaches}
 use Rattle.mapping.specs.declared.Mapping as declaredMapping
-use Rattle.mapping.specs.Decoded.{firstOf, mappingOf}
+use Rattle.mapping.specs.Decoded.{mappingOf}
 use Rattle.mapping.specs.Judged.{imageNumber}
 use Rattle.mapping.proofs.Viewing.{node-at}
 

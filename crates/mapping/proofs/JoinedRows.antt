@@ -1,12 +1,12 @@
 -- The joined lists of Sigma by arrays: where a node's rows begin, and how many there are.
 use Prim.Native.Nat.{ℕ, zero, suc, _+_, _<_, _≤_}
-use mathlib.Core.Path.{_≡_, refl, sym, ap, _∙_}
+use mathlib.Core.Path.{_≡_, refl, ap, _∙_}
 use mathlib.Core.Bool.{Bool, true, false, cond}
-use mathlib.Core.List.{List, [], _∷_, _++_, map}
+use mathlib.Core.List.{List, [], _∷_, _++_}
 use native.Mathlib.Omega.{arith}
 use lib.ListN.{getD}
 use lib.Dec.{eqb}
-use Rattle.meaning.specs.Lists.{sumOf, consIf}
+use Rattle.meaning.specs.Lists.{consIf}
 use Rattle.meaning.specs.Formats.{Instance}
 use Rattle.meaning.specs.Views.{nodeImage, count}
 use Rattle.meaning.specs.Sigma.{fibreBelow, fibre, rowsIn, firstRow}

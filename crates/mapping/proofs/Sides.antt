@@ -1,7 +1,7 @@
 -- Refusal 8 by class numbers: an equation's sides are paths of S, and the classes of their images stand in the tables.
 use Prim.Native.Nat.{ℕ, _<_, _≤_}
-use mathlib.Core.Path.{_≡_, refl, sym, ap, _∙_}
-use mathlib.Core.Bool.{Bool, true, false, _&&_}
+use mathlib.Core.Path.{_≡_, sym, ap, _∙_}
+use mathlib.Core.Bool.{Bool, true, _&&_}
 use mathlib.Core.List.{List}
 use native.Mathlib.Omega.{arith}
 use lib.ListN.{length, getD}
@@ -9,7 +9,7 @@ use lib.Dec.{eqb}
 use Rattle.meaning.specs.Lists.{all}
 use Rattle.meaning.specs.Schema.{Path, Equation, isPath, end}
 use Rattle.meaning.specs.PathEquality.{classOf, equal}
-use Rattle.meaning.specs.Judge.{edgeFits, attributeFits, equationFits, isWellFormed, keepsEquations}
+use Rattle.meaning.specs.Judge.{edgeFits, attributeFits, equationFits, keepsEquations}
 use Rattle.meaning.specs.Views.{pathImage}
 use Rattle.meaning.proofs.Tabulate.{and-both, all-at}
 use Rattle.agreement.proofs.Paths.{pathCount, numberOf, pathAt, number-in, number-path, path-iff, allPaths-each}

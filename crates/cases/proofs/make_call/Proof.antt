@@ -1,3 +1,4 @@
+-- `cases::make_call` meets its contract.
 use mathlib.Core.Path.{sym}
 use lib.ListN.{replicate}
 use lib.Seq.{length-take-le}

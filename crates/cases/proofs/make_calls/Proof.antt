@@ -1,3 +1,4 @@
+-- `cases::make_calls` meets its contract.
 use native.Mathlib.Omega.{arith}
 use borrow.Author.Needs.{needs}
 use Rattle.cases.proofs.make_calls.Statement.{statement}

@@ -1,3 +1,4 @@
+-- `delta::delta` meets its contract.
 use mathlib.Core.Path.{_≡_, sym}
 use mathlib.Core.List.{[]}
 use native.Mathlib.Omega.{arith}

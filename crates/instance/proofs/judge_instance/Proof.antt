@@ -1,3 +1,4 @@
+-- `instance::judge_instance` meets its contract.
 use borrow.Author.Needs.{needs}
 use Rattle.instance.proofs.Judging.{judges-read, judges-refused}
 use Rattle.instance.proofs.judge_instance.Statement.{statement}

@@ -1,11 +1,7 @@
-use mathlib.Core.Path.{_≡_, sym, ap, _∙_}
-use mathlib.Core.Bool.{true, false}
-use mathlib.Core.List.{List, []}
+-- `instance::tested` meets its contract.
+use mathlib.Core.Path.{sym, _∙_}
 use borrow.Author.Needs.{needs}
 use Rattle.meaning.specs.Formats.{kinds}
-use Rattle.meaning.specs.Judge.{linksInRange, valuesInRange, obeysEquations}
-use Rattle.schema.specs.Decoded.{schemaOf}
-use Rattle.instance.specs.Decoded.{tablesOf}
 use Rattle.instance.proofs.Judging.{passes, fails-9, fails-10, fails-11}
 use Rattle.instance.proofs.tested.Statement.{statement}
 use Rattle.instance.proofs.tested.Tie as tie

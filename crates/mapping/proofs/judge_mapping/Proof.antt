@@ -1,3 +1,4 @@
+-- `mapping::judge_mapping` meets its contract.
 use Rattle.mapping.proofs.Judging.{faulty-says, decoded-sound, decoded-faulty}
 use borrow.Author.Needs.{needs}
 use Rattle.mapping.proofs.judge_mapping.Statement.{statement}

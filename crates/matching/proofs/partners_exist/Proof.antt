@@ -1,3 +1,4 @@
+-- `matching::partners_exist` meets its contract.
 use Prim.Native.Nat.{_-_, _<_}
 use mathlib.Core.Path.{sym, _∙_}
 use native.Mathlib.Omega.{arith}

@@ -1,3 +1,4 @@
+-- `sigma::sigma` meets its contract.
 use mathlib.Core.Path.{sym}
 use Rattle.sigma.proofs.Pushing.{all-lead, counts-are, links-are, values-are, pushed}
 use borrow.Author.Needs.{needs}

@@ -1,3 +1,4 @@
+-- `sigma::sigma_counts` meets its contract.
 use Prim.Native.Nat.{_-_, _≤_}
 use mathlib.Core.Path.{refl}
 use native.Mathlib.Omega.{arith}

@@ -1,3 +1,4 @@
+-- `sigma::sigma_values` meets its contract.
 use Prim.Native.Nat.{_-_}
 use native.Mathlib.Omega.{arith}
 use Rattle.sigma.specs.Joined.{JoinedColumns, valueOver}

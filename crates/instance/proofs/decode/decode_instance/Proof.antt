@@ -1,5 +1,6 @@
-use Prim.Native.Nat.{ℕ, _+_, _*_, _≤_, _<_}
-use mathlib.Core.Path.{_≡_, refl, sym, ap, _∙_}
+-- `instance::decode::decode_instance` meets its contract.
+use Prim.Native.Nat.{_+_, _*_, _≤_, _<_}
+use mathlib.Core.Path.{sym, ap, _∙_}
 use native.Mathlib.Omega.{arith}
 use lib.ListN.{length}
 use borrow.Author.Needs.{needs}
@@ -7,7 +8,7 @@ use borrow.Author.Tests.{ltb-true, ltb-false}
 use Rattle.meaning.specs.Lists.{sumOf}
 use Rattle.meaning.specs.Sheet.{judged}
 use Rattle.schema.specs.Decoded.{schemaOf}
-use Rattle.instance.specs.Decoded.{firstOf, countsIn}
+use Rattle.instance.specs.Decoded.{countsIn}
 use Rattle.instance.proofs.Decoding.{faulty-says, instance-short, instance-count, instance-tables}
 use Rattle.instance.proofs.decode.decode_instance.Statement.{statement}
 use Rattle.instance.proofs.decode.decode_instance.Tie as tie

@@ -1,8 +1,8 @@
-use native.Mathlib.Omega.{arith}
+-- `instance::decode::read_counts` meets its contract.
 use native.Mathlib.Nat.{zero-add}
 use lib.ListN.{getD}
-use mathlib.Core.Path.{_≡_, sym, ap, _∙_}
-use Prim.Native.Nat.{ℕ, _+_}
+use mathlib.Core.Path.{sym, ap, _∙_}
+use Prim.Native.Nat.{ℕ}
 use Rattle.meaning.proofs.Tabulate.{tabulate-same}
 use borrow.Author.Needs.{needs}
 use Rattle.instance.proofs.decode.read_counts.Statement.{statement}

@@ -1,9 +1,8 @@
-use Prim.Native.Nat.{ℕ, _+_, _-_, _*_, _≤_, _<_}
-use mathlib.Core.Path.{_≡_, refl, sym, ap, _∙_}
+-- `instance::encode::rows_in` meets its contract.
+use Prim.Native.Nat.{ℕ, _-_, _*_, _≤_}
+use mathlib.Core.Path.{_≡_, refl, ap, _∙_}
 use native.Mathlib.Omega.{arith}
 use native.Mathlib.Nat.{le-antisymm}
-use lib.ListN.{length}
-use borrow.Author.Needs.{needs}
 use Rattle.instance.specs.Decoded.{rowsOf}
 use Rattle.instance.specs.Written.{rowsIn}
 use Rattle.instance.proofs.Columns.{sumOf-more}

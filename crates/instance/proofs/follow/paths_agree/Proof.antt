@@ -1,4 +1,4 @@
-use Prim.Native.Nat.{ℕ, _≤_}
+-- `instance::follow::paths_agree` meets its contract.
 use mathlib.Core.Path.{_≡_}
 use native.Mathlib.Omega.{arith}
 use lib.ListN.{length}

@@ -1,4 +1,5 @@
-use Prim.Native.Nat.{ℕ, zero, suc, _≤_}
+-- `instance::kinds::in_range` meets its contract.
+use Prim.Native.Nat.{ℕ, zero, suc}
 use mathlib.Core.Path.{_≡_, refl, sym, ap, _∙_}
 use native.Mathlib.Omega.{arith}
 use lib.Dec.{leb, eqb}

@@ -1,3 +1,4 @@
+-- `instance::matching::write_matching` meets its contract.
 use borrow.Author.Needs.{needs}
 use Rattle.instance.proofs.Writing.{matching-written}
 use Rattle.instance.proofs.matching.write_matching.Statement.{statement}

@@ -1,8 +1,7 @@
-use Prim.Native.Nat.{ℕ, _+_, _-_, _*_, _≤_, _<_}
-use mathlib.Core.Path.{_≡_, refl, sym, ap, _∙_}
+-- `instance::range::columns_in_range` meets its contract.
+use Prim.Native.Nat.{_-_}
+use mathlib.Core.Path.{sym, _∙_}
 use native.Mathlib.Omega.{arith}
-use lib.ListN.{length}
-use borrow.Author.Needs.{needs}
 use Rattle.meaning.proofs.Tabulate.{Passed, passed-start, passed-more, passed-fail, passed-done}
 use Rattle.instance.specs.Tested.{valueTest}
 use Rattle.instance.proofs.range.columns_in_range.Statement.{statement}

@@ -1,4 +1,4 @@
-use Prim.Native.Nat.{ℕ, _*_, _≤_}
+-- `instance::range::links_in_range` meets its contract.
 use mathlib.Core.Path.{_≡_, sym, _∙_}
 use mathlib.Core.List.{[]}
 use native.Mathlib.Omega.{arith}

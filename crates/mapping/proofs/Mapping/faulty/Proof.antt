@@ -1,3 +1,4 @@
+-- `mapping::Mapping::faulty` meets its contract.
 use borrow.Author.Needs.{needs}
 use Rattle.mapping.proofs.Mapping.faulty.Statement.{statement}
 use Rattle.mapping.proofs.Mapping.faulty.Tie as tie

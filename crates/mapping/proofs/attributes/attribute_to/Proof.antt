@@ -1,18 +1,11 @@
-use Prim.Native.Nat.{ℕ, _+_, _-_, _*_, _≤_, _<_}
-use mathlib.Core.Path.{_≡_, refl, sym, ap, _∙_}
-use mathlib.Core.Bool.{true, false}
+-- `mapping::attributes::attribute_to` meets its contract.
+use Prim.Native.Nat.{_-_}
+use mathlib.Core.Path.{sym}
 use native.Mathlib.Omega.{arith}
-use native.Mathlib.Numerals.{add-one}
-use borrow.Author.Needs.{needs}
 use borrow.Author.Tests.{eq-eqb, ne-eqb}
-use lib.ListN.{length, getD}
+use lib.ListN.{getD}
 use lib.Dec.{eqb}
-use Rattle.theory.specs.Numbering.{tabulate}
-use Rattle.meaning.specs.Lists.{filter, headOr}
-use Rattle.mapping.specs.Even.{isOver}
-use Rattle.mapping.specs.Lifts.{joinedBefore}
-use Rattle.mapping.proofs.Viewing.{upto-tabulate}
-use Rattle.mapping.proofs.Counting.{count-more, count-skip, count-low, Searched, searched-start, searched-more, searched-hit, searched-done}
+use Rattle.mapping.proofs.Counting.{Searched, searched-start, searched-more, searched-hit, searched-done}
 use Rattle.mapping.proofs.attributes.attribute_to.Statement.{statement}
 use Rattle.mapping.proofs.attributes.attribute_to.Tie as tie
 

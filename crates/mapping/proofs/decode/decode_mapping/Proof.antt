@@ -1,3 +1,4 @@
+-- `mapping::decode::decode_mapping` meets its contract.
 use Prim.Native.Nat.{_+_, _*_, _≤_, _<_}
 use mathlib.Core.Path.{_≡_, sym, ap, _∙_}
 use mathlib.Core.Bool.{true, false}

@@ -1,19 +1,14 @@
-use Prim.Native.Nat.{ℕ, _+_, _-_, _*_, _≤_, _<_}
-use mathlib.Core.Path.{_≡_, refl, sym, ap, _∙_}
+-- `mapping::even::agree` meets its contract.
+use Prim.Native.Nat.{_-_}
+use mathlib.Core.Path.{sym}
 use mathlib.Core.Bool.{true, false}
 use native.Mathlib.Omega.{arith}
 use borrow.Author.Needs.{needs}
 use borrow.Author.Tests.{eq-eqb, ne-eqb}
-use lib.ListN.{length, getD, set}
-use lib.Dec.{eqb}
-use Rattle.meaning.specs.Lists.{all}
 use Rattle.meaning.proofs.Tabulate.{Passed, passed-start, passed-more}
-use Rattle.schema.specs.Table.{Filled}
-use Rattle.schema.proofs.Filling.{filled-start, filled-more}
-use Rattle.mapping.specs.Judged.{sideClass}
-use Rattle.mapping.specs.Even.{liftClasses, agreesAt, metAt}
+use Rattle.mapping.specs.Even.{agreesAt}
 use Rattle.mapping.proofs.Viewing.{upto-fail, upto-done}
-use Rattle.mapping.proofs.Lifting.{lifts-more, lifts-skip, agrees-other, agrees-is, met-other, met-is}
+use Rattle.mapping.proofs.Lifting.{agrees-other, agrees-is}
 use Rattle.mapping.proofs.even.agree.Statement.{statement}
 use Rattle.mapping.proofs.even.agree.Tie as tie
 

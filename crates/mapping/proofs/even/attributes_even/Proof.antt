@@ -1,8 +1,7 @@
-use Prim.Native.Nat.{ℕ, _+_, _-_, _≤_, _<_}
-use mathlib.Core.Path.{_≡_, refl, sym, ap, _∙_}
+-- `mapping::even::attributes_even` meets its contract.
+use Prim.Native.Nat.{_-_}
+use mathlib.Core.Path.{sym, _∙_}
 use native.Mathlib.Omega.{arith}
-use borrow.Author.Needs.{needs}
-use Rattle.meaning.specs.Lists.{upto, all}
 use Rattle.meaning.proofs.Tabulate.{Passed, passed-start, passed-more}
 use Rattle.mapping.specs.Even.{evenColumnsAt}
 use Rattle.mapping.proofs.Viewing.{upto-fail, upto-done}

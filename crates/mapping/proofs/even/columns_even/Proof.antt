@@ -1,11 +1,8 @@
-use Prim.Native.Nat.{ℕ, _+_, _-_, _≤_, _<_}
-use mathlib.Core.Path.{_≡_, refl, sym, ap, _∙_}
-use mathlib.Core.Bool.{true, false}
+-- `mapping::even::columns_even` meets its contract.
+use Prim.Native.Nat.{_-_}
+use mathlib.Core.Path.{sym}
 use native.Mathlib.Omega.{arith}
-use borrow.Author.Needs.{needs}
 use borrow.Author.Tests.{eq-eqb, ne-eqb}
-use lib.ListN.{length, getD}
-use Rattle.meaning.specs.Lists.{upto, all}
 use Rattle.meaning.proofs.Tabulate.{Passed, passed-start, passed-more}
 use Rattle.mapping.specs.Even.{evenColumnAt}
 use Rattle.mapping.proofs.Viewing.{upto-fail, upto-done}

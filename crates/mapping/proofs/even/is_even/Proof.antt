@@ -1,4 +1,5 @@
-use mathlib.Core.Path.{_≡_, sym, _∙_}
+-- `mapping::even::is_even` meets its contract.
+use mathlib.Core.Path.{sym, _∙_}
 use Rattle.mapping.proofs.EvenColumns.{even-by}
 use borrow.Author.Needs.{needs}
 use Rattle.mapping.proofs.even.is_even.Statement.{statement}

@@ -1,19 +1,10 @@
-use Prim.Native.Nat.{ℕ, _+_, _-_, _*_, _≤_, _<_}
-use mathlib.Core.Path.{_≡_, refl, sym, ap, _∙_}
-use mathlib.Core.Bool.{true, false}
+-- `mapping::even::lift_classes` meets its contract.
+use Prim.Native.Nat.{_-_, _≤_}
+use mathlib.Core.Path.{_≡_, refl, sym, _∙_}
 use native.Mathlib.Omega.{arith}
 use borrow.Author.Needs.{needs}
-use borrow.Author.Tests.{eq-eqb, ne-eqb}
-use lib.ListN.{length, getD, set}
-use lib.Dec.{eqb}
-use Rattle.meaning.specs.Lists.{all}
-use Rattle.meaning.proofs.Tabulate.{Passed, passed-start, passed-more, passed-fail, passed-done}
-use Rattle.schema.specs.Table.{Filled}
-use Rattle.schema.proofs.Filling.{filled-start, filled-more}
-use Rattle.mapping.specs.Judged.{sideClass}
-use Rattle.mapping.specs.Even.{liftClasses, agreesAt, metAt}
-use Rattle.mapping.proofs.Viewing.{upto-tabulate}
-use Rattle.mapping.proofs.Lifting.{lifts-more, lifts-skip, agrees-other, agrees-is, met-other, met-is}
+use Rattle.mapping.specs.Even.{liftClasses}
+use Rattle.mapping.proofs.Lifting.{lifts-more, lifts-skip}
 use Rattle.mapping.proofs.even.lift_classes.Statement.{statement}
 use Rattle.mapping.proofs.even.lift_classes.Tie as tie
 

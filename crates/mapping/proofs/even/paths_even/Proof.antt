@@ -1,12 +1,9 @@
-use Prim.Native.Nat.{ℕ, _+_, _-_, _≤_, _<_}
-use mathlib.Core.Path.{_≡_, refl, sym, ap, _∙_}
-use mathlib.Core.Bool.{true, false}
+-- `mapping::even::paths_even` meets its contract.
+use Prim.Native.Nat.{_-_}
+use mathlib.Core.Path.{sym, _∙_}
 use native.Mathlib.Omega.{arith}
-use borrow.Author.Needs.{needs}
-use lib.ListN.{length, getD}
-use Rattle.meaning.specs.Lists.{upto, all}
 use Rattle.meaning.proofs.Tabulate.{Passed, passed-start, passed-more}
-use Rattle.mapping.specs.Even.{liftClasses, agreesAt, metAt, evenPathsAt}
+use Rattle.mapping.specs.Even.{evenPathsAt}
 use Rattle.mapping.proofs.Viewing.{upto-fail, upto-done}
 use Rattle.mapping.proofs.even.paths_even.Statement.{statement}
 use Rattle.mapping.proofs.even.paths_even.Tie as tie

@@ -1,3 +1,4 @@
+-- `mapping::fits::attribute_fits` meets its contract.
 use borrow.Author.Tests.{lt-ltb, le-ltb, eq-eqb, ne-eqb}
 use borrow.Author.Needs.{needs}
 use Rattle.mapping.proofs.fits.attribute_fits.Statement.{statement}

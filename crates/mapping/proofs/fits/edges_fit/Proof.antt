@@ -1,14 +1,12 @@
-use Prim.Native.Nat.{ℕ, _+_, _-_, _*_, _≤_, _<_}
-use mathlib.Core.Path.{_≡_, refl, sym, ap, _∙_}
-use mathlib.Core.Bool.{true, false}
+-- `mapping::fits::edges_fit` meets its contract.
+use Prim.Native.Nat.{_-_, _<_}
+use mathlib.Core.Path.{_≡_, sym, _∙_}
 use native.Mathlib.Omega.{arith}
-use lib.ListN.{length, getD}
-use lib.Dec.{ltb}
+use lib.ListN.{getD}
 use borrow.Author.Needs.{needs}
-use borrow.Author.Tests.{lt-ltb, le-ltb}
 use Rattle.meaning.proofs.Tabulate.{Passed, passed-start, passed-more}
 use Rattle.mapping.proofs.Viewing.{upto-fail, upto-done}
-use Rattle.mapping.proofs.Fitting.{edgeTest, attributeTest, edges-test, attributes-test, source-in, target-in, home-in}
+use Rattle.mapping.proofs.Fitting.{edgeTest, edges-test, source-in, target-in}
 use Rattle.mapping.proofs.fits.edges_fit.Statement.{statement}
 use Rattle.mapping.proofs.fits.edges_fit.Tie as tie
 

@@ -1,4 +1,5 @@
-use mathlib.Core.Path.{_≡_, sym, _∙_}
+-- `mapping::fits::images_fit` meets its contract.
+use mathlib.Core.Path.{sym, _∙_}
 use Rattle.mapping.proofs.Fitting.{nodes-in, fits-by}
 use borrow.Author.Needs.{needs}
 use Rattle.mapping.proofs.fits.images_fit.Statement.{statement}

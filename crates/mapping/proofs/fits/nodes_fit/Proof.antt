@@ -1,13 +1,12 @@
-use Prim.Native.Nat.{ℕ, _+_, _-_, _*_, _≤_, _<_}
-use mathlib.Core.Path.{_≡_, refl, sym, ap, _∙_}
-use mathlib.Core.Bool.{true, false}
+-- `mapping::fits::nodes_fit` meets its contract.
+use Prim.Native.Nat.{ℕ, _-_}
+use mathlib.Core.Path.{sym}
 use native.Mathlib.Omega.{arith}
-use lib.ListN.{length, getD}
+use lib.ListN.{getD}
 use lib.Dec.{ltb}
 use borrow.Author.Needs.{needs}
 use borrow.Author.Tests.{lt-ltb, le-ltb}
 use Rattle.meaning.proofs.Tabulate.{Passed, passed-start, passed-more, passed-fail, passed-done}
-use Rattle.mapping.proofs.Fitting.{edgeTest, attributeTest, edges-test, attributes-test, source-in, target-in, home-in}
 use Rattle.mapping.proofs.fits.nodes_fit.Statement.{statement}
 use Rattle.mapping.proofs.fits.nodes_fit.Tie as tie
 

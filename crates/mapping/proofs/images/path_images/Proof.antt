@@ -1,14 +1,14 @@
-use Prim.Native.Nat.{ℕ, _+_, _-_, _*_, _≤_, _<_}
-use mathlib.Core.Path.{_≡_, refl, sym, ap, _∙_}
+-- `mapping::images::path_images` meets its contract.
+use Prim.Native.Nat.{_-_, _≤_, _<_}
+use mathlib.Core.Path.{_≡_, _∙_}
 use native.Mathlib.Omega.{arith}
 use borrow.Author.Needs.{needs}
-use lib.ListN.{length, getD}
+use lib.ListN.{getD}
 use Rattle.schema.specs.declared.Schema.{Schema}
 use Rattle.schema.specs.Decoded.{schemaOf}
 use Rattle.schema.specs.Table.{Filled}
-use Rattle.schema.specs.PathWalks.{walkFrom, WalkIn}
 use Rattle.schema.proofs.Filling.{filled-start, filled-more}
-use Rattle.mapping.specs.Decoded.{mappingOf, imageOf, noImage}
+use Rattle.mapping.specs.Decoded.{mappingOf}
 use Rattle.mapping.specs.Judged.{Imageable, imageNumber}
 use Rattle.mapping.proofs.ImageTable.{number-low, trivial-image, Turn, longer-image}
 use Rattle.mapping.proofs.images.path_images.Statement.{statement}

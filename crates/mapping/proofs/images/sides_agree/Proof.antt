@@ -1,15 +1,14 @@
-use Prim.Native.Nat.{ℕ, _+_, _-_, _*_, _≤_, _<_}
-use mathlib.Core.Path.{_≡_, refl, sym, ap, _∙_}
-use mathlib.Core.Bool.{true, false}
-use native.Mathlib.Omega.{arith}
+-- `mapping::images::sides_agree` meets its contract.
+use Prim.Native.Nat.{_-_}
+use mathlib.Core.Path.{_≡_, sym, ap, _∙_}
 use borrow.Author.Needs.{needs}
 use borrow.Author.Tests.{eq-eqb, ne-eqb}
-use lib.ListN.{length, getD}
+use lib.ListN.{getD}
 use lib.Dec.{eqb}
 use Rattle.meaning.specs.Schema.{Equation}
 use Rattle.meaning.proofs.Tabulate.{Passed, passed-start, passed-more, passed-fail, passed-done}
 use Rattle.agreement.proofs.Paths.{numberOf}
-use Rattle.schema.specs.Decoded.{graphOf, pathOf, noPath}
+use Rattle.schema.specs.Decoded.{graphOf, noPath}
 use Rattle.mapping.specs.Judged.{sideClass}
 use Rattle.mapping.proofs.Sides.{equation, sides, Side, side}
 use Rattle.mapping.proofs.images.sides_agree.Statement.{statement}

@@ -1,4 +1,4 @@
-use mathlib.Core.Path.{_≡_, sym, ap, _∙_}
+-- `mapping::lifts::edge_class` meets its contract.
 use borrow.Author.Needs.{needs}
 use Rattle.mapping.proofs.lifts.edge_class.Statement.{statement}
 use Rattle.mapping.proofs.lifts.edge_class.Tie as tie

@@ -1,3 +1,4 @@
+-- `matching::turning::place_tables` meets its contract.
 use Prim.Native.Nat.{_-_, _<_}
 use native.Mathlib.Omega.{arith}
 use lib.ListN.{getD}

@@ -1,3 +1,4 @@
+-- `matching::turning::places_of` meets its contract.
 use mathlib.Core.Path.{_≡_, sym}
 use lib.ListN.{length}
 use borrow.Author.Needs.{needs}

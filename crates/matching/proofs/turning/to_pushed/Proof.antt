@@ -1,3 +1,4 @@
+-- `matching::turning::to_pushed` meets its contract.
 use borrow.Author.Needs.{needs}
 use Rattle.matching.proofs.Transposing.{pushed-moveable, pushed-is}
 use Rattle.matching.proofs.turning.to_pushed.Statement.{statement}

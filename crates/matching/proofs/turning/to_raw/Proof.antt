@@ -1,3 +1,4 @@
+-- `matching::turning::to_raw` meets its contract.
 use borrow.Author.Needs.{needs}
 use Rattle.matching.proofs.Transposing.{raw-moveable, raw-is}
 use Rattle.matching.proofs.turning.to_raw.Statement.{statement}

@@ -1,3 +1,4 @@
+-- `migration::Refusal::or` meets its contract.
 use borrow.Author.Tests.{eq-eqb, ne-eqb}
 use Rattle.migration.proofs.Refusal.or.Statement.{statement}
 use Rattle.migration.proofs.Refusal.or.Tie as tie

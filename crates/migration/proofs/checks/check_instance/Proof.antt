@@ -1,3 +1,4 @@
+-- `migration::checks::check_instance` meets its contract.
 use mathlib.Core.Path.{ap, _∙_}
 use Rattle.migration.specs.declared.Refusal.{Refusal}
 use Rattle.migration.specs.Answers.{outcomeOf}

@@ -1,3 +1,4 @@
+-- `migration::checks::check_mapping` meets its contract.
 use mathlib.Core.Path.{_∙_}
 use Rattle.migration.specs.Opened.{migrationOf}
 use Rattle.migration.proofs.Refusing.{yields}

@@ -1,3 +1,4 @@
+-- `migration::checks::check_raw` meets its contract.
 use mathlib.Core.Path.{_∙_}
 use Rattle.migration.specs.Turnable.{turnableOf}
 use Rattle.migration.proofs.Refusing.{yields}

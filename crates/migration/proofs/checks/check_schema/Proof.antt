@@ -1,3 +1,4 @@
+-- `migration::checks::check_schema` meets its contract.
 use mathlib.Core.Path.{_∙_}
 use Rattle.migration.proofs.Checking.{schema-checked}
 use borrow.Author.Needs.{needs}

@@ -1,3 +1,4 @@
+-- `migration::checks::same_path` meets its contract.
 use mathlib.Core.Path.{_≡_, sym, ap, _∙_}
 use Rattle.meaning.specs.PathEquality.{equal}
 use Rattle.meaning.specs.Calls.{accepted, samePath}

@@ -1,3 +1,4 @@
+-- `migration::checks::verdict` meets its contract.
 use borrow.Author.Tests.{eq-eqb, ne-eqb}
 use Rattle.migration.proofs.checks.verdict.Statement.{statement}
 use Rattle.migration.proofs.checks.verdict.Tie as tie

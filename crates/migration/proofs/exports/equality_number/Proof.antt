@@ -1,3 +1,4 @@
+-- `migration::exports::equality_number` meets its contract.
 use mathlib.Core.Path.{sym, ap, _∙_}
 use Rattle.migration.specs.declared.Equality.{Equality}
 use Rattle.migration.specs.Answers.{equalityOf, encoded, answered}

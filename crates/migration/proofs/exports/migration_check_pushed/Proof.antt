@@ -1,3 +1,4 @@
+-- `migration::exports::migration_check_pushed` meets its contract.
 use mathlib.Core.Path.{ap, _∙_}
 use Rattle.meaning.specs.Calls.{Outcome}
 use Rattle.migration.specs.Answers.{encoded, checked}

@@ -1,3 +1,4 @@
+-- `migration::exports::migration_pushed_to_raw` meets its contract.
 use Prim.Native.Nat.{ℕ}
 use mathlib.Core.Path.{ap, _∙_}
 use Rattle.migration.specs.Answers.{returned}

@@ -1,3 +1,4 @@
+-- `migration::exports::migration_same_path` meets its contract.
 use mathlib.Core.Path.{ap, _∙_}
 use mathlib.Core.Bool.{Bool}
 use Rattle.meaning.specs.Calls.{Outcome}

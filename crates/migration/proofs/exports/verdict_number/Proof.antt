@@ -1,3 +1,4 @@
+-- `migration::exports::verdict_number` meets its contract.
 use mathlib.Core.Path.{sym, ap, _∙_}
 use Rattle.migration.specs.declared.Verdict.{Verdict}
 use Rattle.migration.specs.Answers.{verdictOf, encoded, checked}

@@ -1,3 +1,4 @@
+-- `migration::exports::written_number` meets its contract.
 use mathlib.Core.Path.{sym, ap, _∙_}
 use Rattle.migration.specs.declared.Written.{Written}
 use Rattle.migration.specs.Answers.{writtenOf, encoded}

@@ -1,3 +1,4 @@
+-- `migration::matchings::judge_matching` meets its contract.
 use mathlib.Core.Path.{sym, _∙_}
 use Rattle.instance.specs.Decoded.{tablesOf}
 use Rattle.migration.proofs.Partners.{matched, unmatched, unread}

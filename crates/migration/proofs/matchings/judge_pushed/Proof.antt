@@ -1,3 +1,4 @@
+-- `migration::matchings::judge_pushed` meets its contract.
 use Rattle.meaning.specs.Calls.{judgePushed}
 use Rattle.matching.specs.Compared.{partnersOf}
 use Rattle.migration.proofs.Judging.{overfull-told, pushed-comparable, pushed-told}

@@ -1,3 +1,4 @@
+-- `migration::matchings::judge_raw` meets its contract.
 use mathlib.Core.Path.{sym, ap, _∙_}
 use Rattle.meaning.specs.Lists.{sumOf}
 use Rattle.meaning.specs.Formats.{Instance}

@@ -1,3 +1,4 @@
+-- `migration::matchings::judge_side` meets its contract.
 use borrow.Author.Needs.{needs}
 use Rattle.migration.proofs.matchings.judge_side.Statement.{statement}
 use Rattle.migration.proofs.matchings.judge_side.Tie as tie

@@ -1,3 +1,4 @@
+-- `migration::matchings::match_side` meets its contract.
 use Rattle.migration.specs.Matched.{sideList}
 use Rattle.migration.proofs.Grouping.{side-judged, side-stopped}
 use borrow.Author.Needs.{needs}

@@ -1,3 +1,4 @@
+-- `migration::migrate::delta_tables` meets its contract.
 use mathlib.Core.Path.{sym, ap, _∙_}
 use Rattle.migration.specs.declared.Refusal.{Refusal}
 use Rattle.migration.proofs.Refusing.{refusal, none-first, none-next}

@@ -1,3 +1,4 @@
+-- `migration::migrate::join_run` meets its contract.
 use Rattle.migration.proofs.Joining.{joined-made, joined-overfull}
 use borrow.Author.Needs.{needs}
 use Rattle.migration.proofs.migrate.join_run.Statement.{statement}

@@ -1,3 +1,4 @@
+-- `migration::migrate::pi_tables` meets its contract.
 use Rattle.migration.proofs.Joining.{mapped, sheets-stopped, tests-stopped, joinable, tests-joined}
 use borrow.Author.Needs.{needs}
 use Rattle.migration.proofs.migrate.pi_tables.Statement.{statement}

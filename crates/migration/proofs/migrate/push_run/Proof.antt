@@ -1,3 +1,4 @@
+-- `migration::migrate::push_run` meets its contract.
 use Rattle.migration.proofs.Pushing.{push-made}
 use borrow.Author.Needs.{needs}
 use Rattle.migration.proofs.migrate.push_run.Statement.{statement}

@@ -1,3 +1,4 @@
+-- `migration::migrate::sigma` meets its contract.
 use mathlib.Core.Path.{ap, _∙_}
 use Rattle.meaning.specs.Calls.{Outcome, Migrated, sheetOf, inTray}
 use borrow.Author.Needs.{needs}

@@ -1,3 +1,4 @@
+-- `migration::migrate::sigma_tables` meets its contract.
 use Rattle.migration.proofs.Pushing.{pushable, even-pushed, uneven-stopped, sheets-stopped}
 use borrow.Author.Needs.{needs}
 use Rattle.migration.proofs.migrate.sigma_tables.Statement.{statement}

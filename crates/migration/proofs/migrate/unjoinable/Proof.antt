@@ -1,3 +1,4 @@
+-- `migration::migrate::unjoinable` meets its contract.
 use mathlib.Core.Path.{sym, _∙_}
 use Rattle.pi.proofs.ComponentList.{few-are}
 use borrow.Author.Needs.{needs}

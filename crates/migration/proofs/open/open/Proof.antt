@@ -1,3 +1,4 @@
+-- `migration::open::open` meets its contract.
 use mathlib.Core.Path.{sym, ap, _∙_}
 use Rattle.mapping.specs.Judged.{Schemas}
 use Rattle.migration.specs.declared.Refusal.{Refusal}

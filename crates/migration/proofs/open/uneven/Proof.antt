@@ -1,3 +1,4 @@
+-- `migration::open::uneven` meets its contract.
 use mathlib.Core.Path.{sym, _∙_}
 use borrow.Author.Needs.{needs}
 use Rattle.migration.proofs.open.uneven.Statement.{statement}

@@ -1,3 +1,4 @@
+-- `migration::printing::print` meets its contract.
 use Rattle.migration.specs.Migrated.{migratedOf}
 use Rattle.migration.proofs.Texts.{result-printed, refusal-printed}
 use borrow.Author.Needs.{needs}

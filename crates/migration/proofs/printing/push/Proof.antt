@@ -1,3 +1,4 @@
+-- `migration::printing::push` meets its contract.
 use mathlib.Core.Path.{sym, ap₂, _∙_}
 use mathlib.Core.List.{List}
 use Prim.Native.Nat.{ℕ}

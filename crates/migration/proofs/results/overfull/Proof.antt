@@ -1,3 +1,4 @@
+-- `migration::results::overfull` meets its contract.
 use native.Mathlib.Omega.{arith}
 use borrow.Author.Tests.{le-leb, lt-leb}
 use Rattle.meaning.specs.Lists.{sumOf}

@@ -1,3 +1,4 @@
+-- `migration::results::write_migrated` meets its contract.
 use native.Mathlib.Omega.{arith}
 use Rattle.migration.proofs.Trays.{migrated-written, migrated-small, migrated-refused}
 use borrow.Author.Needs.{needs}

@@ -1,3 +1,4 @@
+-- `migration::runs::open_run` meets its contract.
 use Rattle.migration.proofs.Opening.{run-open}
 use borrow.Author.Needs.{needs}
 use Rattle.migration.proofs.runs.open_run.Statement.{statement}

@@ -1,3 +1,4 @@
+-- `migration::sides::open_sides` meets its contract.
 use mathlib.Core.Path.{_≡_, ap, _∙_}
 use Rattle.migration.specs.declared.Refusal.{Refusal}
 use Rattle.migration.specs.Answers.{orNext}

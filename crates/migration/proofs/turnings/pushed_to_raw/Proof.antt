@@ -1,3 +1,4 @@
+-- `migration::turnings::pushed_to_raw` meets its contract.
 use mathlib.Core.Path.{ap, _∙_}
 use Rattle.meaning.specs.Formats.{matchingSheet}
 use Rattle.meaning.specs.Calls.{inTray}

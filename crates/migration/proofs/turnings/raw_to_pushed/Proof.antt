@@ -1,3 +1,4 @@
+-- `migration::turnings::raw_to_pushed` meets its contract.
 use mathlib.Core.Path.{ap, _∙_}
 use Rattle.meaning.specs.Formats.{matchingSheet}
 use Rattle.meaning.specs.Calls.{inTray}

@@ -1,3 +1,4 @@
+-- `migration::turnings::turn` meets its contract.
 use Rattle.migration.proofs.Turning.{may-turn, to-raw-told, to-pushed-told}
 use borrow.Author.Needs.{needs}
 use Rattle.migration.proofs.turnings.turn.Statement.{statement}

@@ -1,3 +1,4 @@
+-- `migration::turnings::write_partners` meets its contract.
 use native.Mathlib.Omega.{arith}
 use Rattle.meaning.specs.Formats.{matchingSheet}
 use Rattle.instance.specs.Decoded.{firstOf}

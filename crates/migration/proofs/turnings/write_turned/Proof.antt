@@ -1,3 +1,4 @@
+-- `migration::turnings::write_turned` meets its contract.
 use Prim.Native.Nat.{ℕ}
 use mathlib.Core.Path.{sym, ap, _∙_}
 use mathlib.Core.List.{List}

@@ -1,3 +1,4 @@
+-- `pi::links::block_at` meets its contract.
 use Prim.Native.Nat.{_+_}
 use mathlib.Core.Path.{_≡_, _∙_}
 use native.Mathlib.Omega.{arith}

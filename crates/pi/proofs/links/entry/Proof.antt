@@ -1,3 +1,4 @@
+-- `pi::links::entry` meets its contract.
 use native.Mathlib.Omega.{arith}
 use borrow.Author.Needs.{needs}
 use Rattle.pi.proofs.Rows.{entry-in, entry-past}

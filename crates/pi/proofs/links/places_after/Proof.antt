@@ -1,3 +1,4 @@
+-- `pi::links::places_after` meets its contract.
 use Prim.Native.Nat.{ℕ, _-_}
 use mathlib.Core.Path.{_≡_, ap}
 use native.Mathlib.Omega.{arith}

@@ -1,3 +1,4 @@
+-- `pi::links::restricted` meets its contract.
 use Prim.Native.Nat.{_-_}
 use native.Mathlib.Omega.{arith}
 use borrow.Author.Needs.{needs}

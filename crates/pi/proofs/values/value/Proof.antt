@@ -1,3 +1,4 @@
+-- `pi::values::value` meets its contract.
 use native.Mathlib.Omega.{arith}
 use borrow.Author.Needs.{needs}
 use Rattle.pi.proofs.Rows.{entry-in, entry-past}

@@ -1,3 +1,4 @@
+-- `sigma::columns::path_edges` meets its contract.
 use Prim.Native.Nat.{_-_}
 use mathlib.Core.Path.{refl, ap, _∙_}
 use native.Mathlib.Omega.{arith}

@@ -1,3 +1,4 @@
+-- `sigma::columns::place_column` meets its contract.
 use Prim.Native.Nat.{ℕ, _+_, _-_, _<_}
 use mathlib.Core.Path.{_≡_, ap}
 use native.Mathlib.Omega.{arith}
