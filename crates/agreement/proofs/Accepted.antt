@@ -78,9 +78,6 @@ module _ (s t f j : List ℕ) where
       let c = fits-accepted (delta (m .S) (m .F) (b .0)) _ (b .2) in
       (m, b .0, record { migration-sound = migration-accepted s t f (a .1); J-sound = b .1; fits = c .0 }, sym (accepted-same (c .1)))
 
-  pub delta-accepts : {m : Migration} {J : Instance} → DeltaSound s t f j m J → deltaTables s t f j ≡ accepted (deltaResult m J)
-  delta-accepts {m} {J} h = rw (migration-accepts s t f (h .migration-sound), h .J-sound, le-leb (sumOf (delta (m .S) (m .F) J .counts)) maxRows (h .fits))
-
 pub record SigmaSound (s t f i : List ℕ) (m : Migration) (I : Instance) : Type 0 where
   pub migration-sound : MigrationSound s t f m
   pub I-sound : judgeInstance (m .S) i ≡ sound I
@@ -99,10 +96,6 @@ module _ (s t f i : List ℕ) where
       let c = ensure-accepted (even (m .S) (m .T) (m .F)) 12 _ (b .2) in
       let d = fits-accepted (sigma (m .S) (m .T) (m .F) (b .0)) _ (c .1) in
       (m, b .0, record { migration-sound = migration-accepted s t f (a .1); I-sound = b .1; is-even = c .0; fits = d .0 }, sym (accepted-same (d .1)))
-
-  pub sigma-accepts : {m : Migration} {I : Instance} → SigmaSound s t f i m I → sigmaTables s t f i ≡ accepted (sigmaResult m I)
-  sigma-accepts {m} {I} h =
-      rw (migration-accepts s t f (h .migration-sound), h .I-sound, h .is-even, le-leb (sumOf (sigma (m .S) (m .T) (m .F) I .counts)) maxRows (h .fits))
 
 pub record PiSound (s t f i : List ℕ) (m : Migration) (I : Instance) : Type 0 where
   pub migration-sound : MigrationSound s t f m
@@ -124,10 +117,6 @@ module _ (s t f i : List ℕ) where
       let n = ensure-accepted (hasFewComponents (m .S) (m .T) (m .F)) 14 _ (c .1) in
       let d = fits-accepted (pi (m .S) (m .T) (m .F) (b .0)) _ (n .1) in
       (m, b .0, record { migration-sound = migration-accepted s t f (a .1); I-sound = b .1; is-bijective = c .0; few-components = n .0; fits = d .0 }, sym (accepted-same (d .1)))
-
-  pub pi-accepts : {m : Migration} {I : Instance} → PiSound s t f i m I → piTables s t f i ≡ accepted (piResult m I)
-  pi-accepts {m} {I} h =
-      rw (migration-accepts s t f (h .migration-sound), h .I-sound, h .is-bijective, h .few-components, le-leb (sumOf (pi (m .S) (m .T) (m .F) I .counts)) maxRows (h .fits))
 
 -- ---- the run and the book, with both migrated tables
 pub record SidesSound (s t f i j : List ℕ) (x : Sides) : Type 0 where

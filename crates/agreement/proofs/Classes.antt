@@ -335,10 +335,6 @@ module _ (S : Schema) (wf : WellFormed S) where
           absurd (f .least (pathAt (S .graph) c .edges) (e .chain) (before-pathBefore (pathAt (S .graph) c) (path n g) (sym (e .starts)) b))
       go false q = let a = ltb-false c i q in let b = classes-is .classified .lower i (number-in (S .graph) m) in omega arith
 
-  -- the number of a class is that of its first path
-  pub class-number : (n : ℕ) (p g : List ℕ) → IsPath (schemaOf S) n p → IsFirst (schemaOf S) n g → Chain (schemaOf S) n p g → classOf S (path n p) ≡ numberOf (S .graph) (path n g)
-  class-number n p g h f c = chain-class classes-is n c h ∙ first-class n g f
-
   pub first-iff : (n : ℕ) (g : List ℕ) → IsPath (schemaOf S) n g → (isFirst S (path n g) ≡ true) ↔ IsFirst (schemaOf S) n g
   first-iff n g h = (to, λ f. eq-eqb (classOf S (path n g)) (numberOf (S .graph) (path n g)) (first-class n g f))
     where

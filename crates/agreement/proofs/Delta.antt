@@ -10,14 +10,12 @@ use Rattle.theory.proofs.Instance.{alike-rows, alike-sym, alike-is}
 use Rattle.theory.proofs.Mapping.{delta-is}
 use Rattle.meaning.specs.Lists.{sumOf}
 use Rattle.meaning.specs.Schema.{Schema, source, attributeAt}
-use Rattle.meaning.specs.Sheet.{sound}
-use Rattle.meaning.specs.Formats.{Mapping, Instance, maxRows, instanceSheet}
+use Rattle.meaning.specs.Formats.{Mapping, Instance, maxRows}
 use Rattle.meaning.specs.Views.{schemaOf, nodeImage, edgeImage, attributeImage, mappingOf, count, rows, column, follow, instanceOf}
-use Rattle.meaning.specs.Judge.{judgeInstance}
 use Rattle.meaning.specs.Delta.{delta}
 use Rattle.meaning.proofs.Facts.{Shaped}
 use Rattle.agreement.proofs.Tables.{rows-sum}
-use Rattle.agreement.proofs.Valid.{ValidMapping, ValidInstance, valid-lent-again}
+use Rattle.agreement.proofs.Valid.{ValidMapping, ValidInstance}
 use Rattle.agreement.proofs.Joined.{map-upto-length, map-upto-getD}
 
 module _ (S : Schema) (F : Mapping) (J : Instance) where
@@ -70,7 +68,3 @@ module _ {S T : Schema} {F : Mapping} (v : ValidMapping S T F) (J : Instance) wh
   module _ (i : ValidInstance T J) (few : sumOf (delta S F J .counts) ≤ maxRows) where
     pub delta-valid : ValidInstance S (delta S F J)
     delta-valid = record { shaped = delta-shaped (i .shaped); is = delta-instance (i .is); few-rows = few }
-
-    -- its sheet, lent again, is accepted and read back as the same tables
-    pub delta-lent-again : judgeInstance S (instanceSheet (delta S F J)) ≡ sound (delta S F J)
-    delta-lent-again = valid-lent-again delta-valid

@@ -14,13 +14,11 @@ use Rattle.theory.proofs.Family.{family-restrict, components-one}
 use Rattle.theory.proofs.Pi.{pi-is, pi-one}
 use Rattle.meaning.specs.Lists.{position, sameList, sumOf}
 use Rattle.meaning.specs.Schema.{Schema, source, target, attributeAt}
-use Rattle.meaning.specs.Sheet.{sound}
-use Rattle.meaning.specs.Formats.{Mapping, Instance, maxRows, instanceSheet}
+use Rattle.meaning.specs.Formats.{Mapping, Instance, maxRows}
 use Rattle.meaning.specs.Views.{schemaOf, attributeImage, mappingOf, count, link, column, value, instanceOf}
-use Rattle.meaning.specs.Judge.{judgeInstance}
 use Rattle.meaning.specs.Pi.{Component, components, families, restrict, valueAt, pi}
 use Rattle.meaning.proofs.Lists.{sameList-iff, getD-map, position-in, position-passes}
-use Rattle.agreement.proofs.Valid.{ValidMapping, ValidInstance, valid-lent-again}
+use Rattle.agreement.proofs.Valid.{ValidMapping, ValidInstance}
 use Rattle.meaning.proofs.Facts.{Shaped}
 use Rattle.agreement.proofs.Sheets.{alike-same}
 use Rattle.agreement.proofs.Joined.{map-upto-length, map-upto-getD}
@@ -187,7 +185,3 @@ module _ {S T : Schema} {F : Mapping} (v : ValidMapping S T F) (I : Instance) wh
     module _ (i : ValidInstance S I) (few : sumOf (pi S T F I .counts) ≤ maxRows) where
       pub pi-valid : ValidInstance T (pi S T F I)
       pi-valid = record { shaped = pi-shaped; is = pi-instance (i .is); few-rows = few }
-
-      -- its sheet, lent again, is accepted and read back as the same tables
-      pub pi-lent-again : judgeInstance T (instanceSheet (pi S T F I)) ≡ sound (pi S T F I)
-      pi-lent-again = valid-lent-again pi-valid

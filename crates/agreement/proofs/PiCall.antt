@@ -10,22 +10,21 @@ use lib.Dec.{leb}
 use borrow.Author.Tests.{leb-true, leb-false, le-leb, lt-leb}
 use Rattle.theory.specs.Numbering.{sum}
 use Rattle.theory.specs.Mapping.{Bijective}
-use Rattle.theory.specs.Pi.{IsPi}
 use Rattle.theory.proofs.Numbering.{sum-ext}
 use Rattle.meaning.specs.Lists.{all, upto, sumOf}
 use Rattle.meaning.specs.Schema.{Schema}
 use Rattle.meaning.specs.Sheet.{sound}
-use Rattle.meaning.specs.Formats.{Mapping, Instance, maxComponents, maxRows, instanceSheet}
-use Rattle.meaning.specs.Views.{mappingOf, count, instanceOf}
+use Rattle.meaning.specs.Formats.{Mapping, Instance, maxComponents, maxRows}
+use Rattle.meaning.specs.Views.{mappingOf, count}
 use Rattle.meaning.specs.Judge.{judgeSchema, judgeMapping, judgeInstance}
 use Rattle.meaning.specs.Pi.{isBijective, components, hasFewComponents, families, pi}
 use Rattle.meaning.specs.Calls.{Outcome, refused, accepted, _>>=_, ensure, Migrated, piTables}
 use Rattle.meaning.proofs.Lists.{no-bool, test-false, all-upto, upto-all, of-upto}
-use Rattle.agreement.proofs.Valid.{ValidMapping, mapping-valid, instance-valid}
+use Rattle.agreement.proofs.Valid.{ValidMapping, mapping-valid}
 use Rattle.agreement.proofs.Tests.{refused-not-accepted, accepted-same}
 use Rattle.agreement.proofs.Tables.{rows-sum}
 use Rattle.agreement.proofs.Bijections.{bijective-iff}
-use Rattle.agreement.proofs.Pi.{piComponents, piRow, pi-count, pi-shaped, pi-is-pi, pi-lent-again}
+use Rattle.agreement.proofs.Pi.{pi-count, pi-shaped}
 
 -- ---- what they count
 
@@ -163,15 +162,3 @@ module _ (s t f i : List ℕ) {S T : Schema} {F : Mapping} {I : Instance} (a : j
       λ h. answer-result T (pi S T F I) M paired narrow fitting .1 (pairs .1 (h .0), fewComponents-iff S T F .1 (h .1), fits .1 (h .2), h .3),
     );
   }
-
-  module _ {M : Migrated} (e : piTables s t f i ≡ accepted M) where
-    bijective : Bijective (mappingOf S T F)
-    bijective = pi-answers .result M .0 e .0
-
-    -- what an accepted call yields is the theory's Pi
-    pub pi-yields : IsPi (mappingOf S T F) (instanceOf I) (instanceOf (M .tables)) (piComponents S T F) (piRow S T F I)
-    pi-yields = rw (← pi-answers .result M .0 e .3) (pi-is-pi v I bijective)
-
-    -- and its sheet, lent again, is accepted and read back as the same tables
-    pub pi-read-back : judgeInstance T (instanceSheet (M .tables)) ≡ sound (M .tables)
-    pi-read-back = rw (← pi-answers .result M .0 e .3) (pi-lent-again v I bijective (instance-valid S i d) (rw total (pi-answers .result M .0 e .2)))

@@ -13,16 +13,14 @@ use Rattle.theory.proofs.Instance.{follow-chain}
 use Rattle.theory.proofs.Sigma.{sigma-is, sigma-rows}
 use Rattle.meaning.specs.Lists.{concatMap, sumOf}
 use Rattle.meaning.specs.Schema.{Schema, source, target, attributeAt, end}
-use Rattle.meaning.specs.Sheet.{sound}
-use Rattle.meaning.specs.Formats.{Mapping, Instance, maxRows, instanceSheet, kinds}
+use Rattle.meaning.specs.Formats.{Mapping, Instance, maxRows, kinds}
 use Rattle.meaning.specs.Views.{schemaOf, nodeImage, mappingOf, count, link, column, value, follow, instanceOf}
 use Rattle.meaning.specs.Sigma.{fibre, rowsIn, firstRow, lift, linksAlong, attributeOver, sigma}
-use Rattle.meaning.specs.Judge.{judgeInstance}
 use Rattle.meaning.specs.Calls.{accepted, ensureFits}
 use Rattle.meaning.proofs.Facts.{Shaped}
 use Rattle.agreement.proofs.Instances.{InRange}
 use Rattle.agreement.proofs.Tables.{rows-sum}
-use Rattle.agreement.proofs.Valid.{ValidMapping, ValidInstance, valid-lent-again}
+use Rattle.agreement.proofs.Valid.{ValidMapping, ValidInstance}
 use Rattle.agreement.proofs.Joined.{map-upto-length, map-upto-getD, fibre-length, fibre-at, rowsIn-share, place-is}
 use Rattle.agreement.proofs.Evenness.{lift-is, attributeOver-is}
 
@@ -109,7 +107,3 @@ module _ {S T : Schema} {F : Mapping} (v : ValidMapping S T F) (E : Even (mappin
 
   pub sigma-never-overfull : ensureFits (sigma S T F I) ≡ accepted (sigma S T F I)
   sigma-never-overfull = rw (le-leb (sumOf (sigma S T F I .counts)) maxRows (sigma-valid .few-rows))
-
-  -- its sheet, lent again, is accepted and read back as the same tables
-  pub sigma-lent-again : judgeInstance T (instanceSheet (sigma S T F I)) ≡ sound (sigma S T F I)
-  sigma-lent-again = valid-lent-again sigma-valid

@@ -126,10 +126,6 @@ unfolding values readAll zip zipWith
 values-read s p [] = refl
 values-read s p (w ∷ ws) = ap (λ (l : List ℕ). field s p w ∷ l) (values-read s (p + w) ws)
 
--- what is read from a sheet, packed, is the sheet
-pub pack-read : (s ws : List ℕ) → Bytes s → tailOk s (totalWidth (zip ws (readAll s 0 ws))) ≡ true → pack (zip ws (readAll s 0 ws)) ≡ s
-pack-read s ws b t = pack-unique s (zip ws (readAll s 0 ws)) b t (ap (readAll s 0) (widths-read s 0 ws) ∙ sym (values-read s 0 ws))
-
 -- ---- fields in two parts
 -- fields that are read one after the other are read together
 pub readAll-append : (s : List ℕ) (p : ℕ) (fs gs : List (ℕ × ℕ)) → readAll s p (widths fs) ≡ values fs → readAll s (p + totalWidth fs) (widths gs) ≡ values gs

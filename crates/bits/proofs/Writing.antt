@@ -13,7 +13,6 @@ use Rattle.bits.specs.Field.{Bytes, bit, field}
 use Rattle.bits.specs.Pack.{totalWidth}
 use Rattle.bits.specs.Put.{withBits, setBit, put, putAll}
 use Rattle.bits.proofs.Numbers.{digit, digit-last, digit-init, each-below}
-use Rattle.bits.proofs.Reading.{field-digits, field-ext}
 use Rattle.bits.proofs.Replacing.{withBits-same, withBits-other, withBits-byte, withBits-none, withBits-more}
 
 -- ---- one bit
@@ -59,13 +58,6 @@ bit-put s p (suc w) v i l h =
     each-below (λ i. bit (put s p (suc w) v) (p + i) ≡ digit (suc w) v i) w
     (λ i h. setBit-other (put s p w (v / 2)) (p + w) v (p + i) (λ e. omega arith) ∙ bit-put s p w (v / 2) i (omega arith) h ∙ sym (digit-init w v i h))
     (setBit-same (put s p w (v / 2)) (p + w) v (rw length-put (omega arith)) ∙ sym (digit-last w v)) i h
-
-pub field-put : (s : List ℕ) (p w v : ℕ) → p + w ≤ 8 * length s → field (put s p w v) p w ≡ v % 2 ^ w
-field-put s p w v l = field-digits (put s p w v) p w v (λ i h. bit-put s p w v i l h)
-
--- a field with no bit in common stays
-pub field-put-other : (s : List ℕ) (p w v q u : ℕ) → ((i : ℕ) → i < u → p ≤ q + i → q + i < p + w → ⊥) → field (put s p w v) q u ≡ field s q u
-field-put-other s p w v q u n = field-ext (put s p w v) s q u (λ i h. bit-put-other s p w v (q + i) (n i h))
 
 -- ---- bytes
 set-bytes : (s : List ℕ) (i x : ℕ) → Bytes s → x < 256 → Bytes (set s i x)

@@ -1,4 +1,3 @@
 pub mod Field
 pub mod Pack
 pub mod Put
-pub mod Take

@@ -5,12 +5,11 @@ pub mod reader;
 ghost use mathlib.Core.Path.{_≡_};
 ghost use mathlib.Core.List.{_++_};
 ghost use Prim.Native.Nat.{_+_, _*_, _^_, _≤_, min};
-ghost use lib.Dec.{leb, ltb};
+ghost use lib.Dec.{ltb};
 ghost use lib.ListN.{length, drop, replicate};
 ghost use Rattle.bits.specs.Field.{field, Within, tailOk};
 ghost use Rattle.bits.specs.Pack.{bytesFor};
 ghost use Rattle.bits.specs.Put.{withBits, put};
-ghost use Rattle.bits.specs.Take.{takeField};
 
 // 2 to the power w, at w: each twice the one before.
 const BOUNDS: [u64; 33] = [
@@ -78,13 +77,6 @@ fn bytes_to(at: usize, width: usize) -> usize
     at / 8 + width / 8 + (at % 8 + width % 8 + 7) / 8
 }
 
-// Whether a field, of any position and width, lies in s.
-pub fn has_room(s: &[u8], at: usize, width: usize) -> bool
-    ensures { λ r. ⌜ r ≡ leb (at + width) (8 * length (now (s .entry))) ⌝ }
-{
-    bytes_to(at, width) <= s.len()
-}
-
 // Whether the bits of s end before a field does: the test for an early return.
 pub fn lacks_room(s: &[u8], at: usize, width: usize) -> bool
     ensures { λ r. ⌜ r ≡ ltb (8 * length (now (s .entry))) (at + width) ⌝ }
@@ -106,24 +98,6 @@ pub fn read_field(s: &[u8], at: usize, width: usize) -> u64
         j += 1;
     }
     (acc >> ((8 - stop % 8) % 8)) % bound(width)
-}
-
-// A field, or that the bits end before it does.
-pub enum Field {
-    Value(u64),
-    Cut,
-}
-
-// Reads a field where there is one.
-pub fn take_field(s: &[u8], at: usize, width: usize) -> Field
-    requires { ⌜ width ≤ 32 ⌝ }
-    ensures { λ r. ⌜ r ≡ takeField (now (s .entry)) at width ⌝ }
-{
-    if has_room(s, at, width) {
-        Field::Value(read_field(s, at, width))
-    } else {
-        Field::Cut
-    }
 }
 
 // Whether the bits from at on are 0 to the end of at's byte, and no byte follows.

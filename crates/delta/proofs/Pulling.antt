@@ -8,7 +8,7 @@ use native.Mathlib.Nat.{le-trans}
 use lib.ListN.{length, getD}
 use Rattle.theory.specs.Numbering.{tabulate}
 use Rattle.theory.proofs.Numbering.{tabulate-getD}
-use Rattle.meaning.specs.Lists.{upto, sumOf}
+use Rattle.meaning.specs.Lists.{upto}
 use Rattle.meaning.specs.Schema.{source}
 use Rattle.meaning.specs.Formats as meaning
 use Rattle.meaning.specs.Views.{nodeImage, edgeImage, attributeImage, count, column, follow}
@@ -146,7 +146,3 @@ module _ {s t : Schema} {f : Mapping} {j d : Instance} {links values followed co
   pub pulled : Counted s t f j d → columnsOf (s .graph .edges) (rowsOf (s .graph .source) (d .counts)) followed ≡ deltaOf s t f j links values .links
       → columnsOf (s .attributes) (rowsOf (s .node) (d .counts)) copied ≡ deltaOf s t f j links values .values → Pulled s t f j links values d followed copied
   pulled D a b = record { says = rw (D .says, a, b); long = D .long }
-
-  -- where Delta has at most 512 rows
-  pub pulled-limits : Pulled s t f j links values d followed copied → sumOf (deltaOf s t f j links values .counts) ≤ 512 → Limits s d
-  pulled-limits u h = record { rows = rw (ap (λ (I : meaning.Instance). sumOf (I .counts)) (u .says)) h; long = u .long }

@@ -17,10 +17,9 @@ use Rattle.theory.proofs.Sigma.{place-in, origin-place, each-row}
 use Rattle.theory.proofs.Matching.{partners-partner}
 use Rattle.theory.proofs.Transposition.{pushed-place}
 use Rattle.meaning.specs.Lists.{sumOf}
-use Rattle.meaning.specs.Formats as meaning
 use Rattle.meaning.specs.Formats.{tableList}
 use Rattle.meaning.specs.Views.{instanceOf}
-use Rattle.meaning.specs.Sigma.{fibre, rowsIn, sigma}
+use Rattle.meaning.specs.Sigma.{fibre, rowsIn}
 use Rattle.agreement.proofs.Joined.{map-upto-getD, rowsIn-share}
 use Rattle.schema.specs.declared.Schema.{Schema}
 use Rattle.schema.specs.Decoded.{schemaOf}
@@ -179,7 +178,3 @@ module _ (s t : Schema) (f : Mapping) (run pushed : Instance) (links values link
   pub toPushed-counts : (l : List ℕ) → toPushed (mappingBetween s t f) (instanceOf (tablesOf s run links values)) (instanceOf (tablesOf t pushed links′ values′)) l ≡ toPushed (mappingBetween s t f) (countsOf s run) (countsOf t pushed) l
   unfolding partners share
   toPushed-counts l = refl
-
-  -- tables that are Sigma of the run have its counts
-  pub pushed-counts : tablesOf t pushed links′ values′ ≡ sigma (schemaOf s) (schemaOf t) (mappingOf s f) (tablesOf s run links values) → tablesOf t pushed [] [] .counts ≡ sigma (schemaOf s) (schemaOf t) (mappingOf s f) (tablesOf s run [] []) .counts
-  pushed-counts e = ap (λ (J : meaning.Instance). J .counts) e

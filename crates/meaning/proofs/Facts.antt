@@ -10,9 +10,9 @@ use borrow.Author.Tests.{leb-true, not-true}
 use Rattle.meaning.specs.Lists.{sumOf}
 use Rattle.meaning.specs.Schema.{Path, Equation, Graph, Schema, source, target, attributeAt, isPath, hasLoop}
 use Rattle.meaning.specs.Sheet.{sound, onSheet}
-use Rattle.meaning.specs.Formats.{Counts, Mapping, Instance, maxNodes, maxEdges, maxAttributes, maxEquations, maxRows, countsInLimits, readEdges, readPath, readPathSheet, readCounts, readEdge, readAttribute, readEquation, readLists, readSchema, readMapping, readInstance, readMatching, kinds}
+use Rattle.meaning.specs.Formats.{Counts, Mapping, Instance, maxNodes, maxEdges, maxAttributes, maxEquations, maxRows, countsInLimits, readEdges, readPath, readCounts, readEdge, readAttribute, readEquation, readLists, readSchema, readMapping, readInstance, readMatching, kinds}
 use Rattle.meaning.specs.Views.{count, link, column, value, edgeImage}
-use Rattle.meaning.specs.Judge.{isWellFormed, hasFewPaths, testSchema, judgeSchema, judgePath, judgeMapping, judgeInstance, imagesFit, keepsEquations, linksInRange, valuesInRange, obeysEquations}
+use Rattle.meaning.specs.Judge.{isWellFormed, hasFewPaths, testSchema, judgeSchema, judgeMapping, judgeInstance, imagesFit, keepsEquations, linksInRange, valuesInRange, obeysEquations}
 use Rattle.meaning.specs.Matching.{isMatching, judgeMatching}
 use Rattle.meaning.proofs.Tabulate.{and-both}
 use Rattle.meaning.proofs.Readers.{Gives, gives-bind, gives-give, gives-as, gives-field, gives-ensure, gives-finish, Every, none, every-in, every-at, gives-times, pointwise-length, pointwise-at, pointwise-every, gives-inTurn, sound-same, given, bind-sound, ensure-sound}
@@ -27,15 +27,6 @@ gives-path = gives-bind (gives-field 4) (λ n _. gives-bind gives-edges (λ es h
 pub record PathFacts (G : Graph) (p : Path) : Type 0 where
   pub is-path : isPath G p ≡ true
   pub short : length (p .edges) ≤ 15
-
-pub path-facts : (G : Graph) (s : List ℕ) {p : Path} → judgePath G s ≡ sound p → PathFacts G p
-path-facts G s e =
-    let a = bind-sound (onSheet readPathSheet s) _ e in
-    let b = ensure-sound (isPath G (a .0)) 4 _ (a .2) in
-    subst (PathFacts G) (sound-same (b .1)) (record {
-      is-path = b .0;
-      short = given (gives-bind gives-path (λ p h. gives-bind gives-finish (λ _ _. gives-give h))) s (a .1);
-    })
 
 -- ---- schemas
 

@@ -21,7 +21,7 @@ use Rattle.meaning.specs.Matching.{judgeMatching}
 use Rattle.meaning.specs.Formats.{Instance, fieldsOf, instanceSheet, matchingSheet, readInstance, readMatching, readLinks, readValues, maxRows, maxInstanceBytes}
 use Rattle.meaning.proofs.Lists.{everywhere, getD-sum}
 use Rattle.meaning.proofs.Readers.{judged-sound, reads-not-fails, reads-same, after-reads, ensure-reads, Pointwise, ended, next, pointwise-of}
-use Rattle.meaning.proofs.Facts.{SchemaFacts, instance-facts, instance-read, MatchingFacts, matching-read, Shaped, FitsFields}
+use Rattle.meaning.proofs.Facts.{SchemaFacts, instance-facts, instance-read, matching-read, Shaped, FitsFields}
 
 -- ---- the fields fs stand in s from bit p to bit q
 pub data FieldsAt (s : List ℕ) : ℕ → List (ℕ × ℕ) → ℕ → Type 0 where
@@ -252,12 +252,6 @@ module _ (A : Instance) where
   pub matching-read-sheet : (s : List ℕ) {l : List ℕ} → Bytes s → onSheet (readMatching A) s ≡ sound l → s ≡ matchingSheet l
   matching-read-sheet s b e = let r = judged-sound (readMatching A s 0) e in let h = matching-fieldsAt s (r .1) in fieldsAt-pack s b (h .0) (h .1)
 
-  pub matching-read-length : (s : List ℕ) {l : List ℕ} → onSheet (readMatching A) s ≡ sound l → length s ≡ length (matchingSheet l)
-  matching-read-length s e = let r = judged-sound (readMatching A s 0) e in let h = matching-fieldsAt s (r .1) in fieldsAt-length s (h .0) (h .1)
-
 module _ (S : Schema) (A B : Instance) where
-  pub matching-sheet-judged : (l : List ℕ) → MatchingFacts S A B l → judgeMatching S A B (matchingSheet l) ≡ sound l
-  matching-sheet-judged l h = rw (matching-sheet-read A l (h .whole) (h .below), h .is-matching)
-
   pub matching-judged-sheet : (s : List ℕ) {l : List ℕ} → Bytes s → judgeMatching S A B s ≡ sound l → s ≡ matchingSheet l
   matching-judged-sheet s b e = matching-read-sheet A s b (matching-read S A B s e)

@@ -6,7 +6,7 @@ use lib.ListN.{length, getD}
 use Rattle.theory.specs.Numbering.{tabulate}
 use Rattle.meaning.specs.Lists.{upto, position, sameList}
 use Rattle.meaning.specs.Schema.{path, source, target}
-use Rattle.meaning.specs.Pi.{Component, componentAt, noComponent, pi}
+use Rattle.meaning.specs.Pi.{componentAt, noComponent, pi}
 use Rattle.meaning.proofs.Tabulate.{tabulate-same}
 use Rattle.schema.specs.declared.Schema.{Schema}
 use Rattle.schema.specs.declared.Paths.{Paths}
@@ -20,7 +20,7 @@ use Rattle.instance.proofs.SoundSchema.{source-in, target-in}
 use Rattle.delta.specs.Stored.{ColumnsStored}
 use Rattle.pi.specs.declared.components.Components.{Components}
 use Rattle.pi.specs.Given.{Mapped}
-use Rattle.pi.specs.Components.{componentsOf, componentOf}
+use Rattle.pi.specs.Components.{componentsOf}
 use Rattle.pi.specs.Families.{Gathered, familiesOf, familyCount, FamiliesUpto}
 use Rattle.pi.specs.Links.{sourceOf, targetOf, placeAfter, entryOf, rowPlace, blockOf, linkRow}
 use Rattle.pi.proofs.Places.{position-upto}
@@ -55,9 +55,6 @@ module _ {s t : Schema} {tp : Paths} {f : Mapping} {k : Components} {run : Insta
     module _ (x : ℕ) (h : x < familyCount s t f run links here) where
       abbrev taken : ℕ → ℕ
       taken j = entryOf table (64 * (blockOf counts (k .count) here .first + x)) (getD (k .count) here 0) (placeAfter (t .graph) tp k e j)
-
-      abbrev component : ℕ → Component
-      component j = componentOf s t f there j
 
       restricted : tabulate (getD (k .count) there 0) taken ≡ restrictTo here there e (family x)
       restricted =

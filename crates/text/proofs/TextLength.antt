@@ -5,16 +5,14 @@ use mathlib.Core.Bool.{Bool, true, false}
 use mathlib.Core.List.{List, [], _∷_, _++_}
 use native.Mathlib.Omega.{arith}
 use native.Mathlib.Nat.{mul-suc, mul-add, le-trans, le-of-eq}
-use borrow.Author.Tests.{ltb-true}
 use lib.ListN.{length, getD, drop, length-append}
-use lib.Dec.{eqb, ltb}
+use lib.Dec.{eqb}
 use Rattle.meaning.specs.Lists.{range, upto, concatMap, sumOf}
-use Rattle.meaning.specs.Schema.{Schema, source, target, attributeAt}
+use Rattle.meaning.specs.Schema.{Schema, source, attributeAt}
 use Rattle.meaning.specs.Formats.{Instance}
-use Rattle.meaning.specs.Judge.{linksInRange}
 use Rattle.meaning.specs.Views.{count, rows, link, value}
 use Rattle.meaning.specs.Program.{wordTables, wordRows, wordRefused, rowLine, printed}
-use Rattle.meaning.proofs.Lists.{getD-sum, upto-all, all-places, everywhere}
+use Rattle.meaning.proofs.Lists.{getD-sum}
 use Rattle.text.specs.Appended.{digits, part, lineOf, headerText, refusalText}
 use Rattle.text.specs.Rows.{partIf}
 use Rattle.text.specs.Written.{maxTextBytes}
@@ -102,12 +100,3 @@ module _ (T : Schema) (J : Instance) (nodes : T .graph .nodes ≤ 16) (edges : l
       let t = tables-length (λ d. concatMap (rowLine T J d) (rows J d)) 311 (J .counts) 0 (T .graph .nodes) (λ d l. table-length d (omega arith)) in
       le-trans (le-of-eq (ap (λ (w : List ℕ). length (w ++ allTables)) (header-line (T .graph .nodes) (sumOf (J .counts)))))
       (omega (arith, length-append (headerText (T .graph .nodes) (sumOf (J .counts))) allTables))
-
--- links of an accepted instance are below 512
-pub targets-below : (T : Schema) (J : Instance) → sumOf (J .counts) ≤ 512 → linksInRange T J ≡ true → (e : ℕ) → e < length (T .graph .edges) → (r : ℕ) → link J e r < 512
-targets-below T J few h e l =
-    let n = count J (target (T .graph) e) in
-    let column = getD (J .links) e [] in
-    everywhere (λ x. x < 512) column 0 (omega arith) λ r m.
-    let low = ltb-true (getD column r 0) n (all-places (λ x. ltb x n) column 0 (upto-all _ (length (T .graph .edges)) h e l) r m) in
-    omega (arith, getD-sum (J .counts) (target (T .graph) e))

@@ -1,7 +1,6 @@
 -- A whole text at the front of a buffer: of a refusal, and of tables.
 use Prim.Native.Nat.{ℕ, _≤_, _<_}
 use mathlib.Core.Path.{_≡_, sym, ap, _∙_, subst}
-use mathlib.Core.Bool.{true}
 use mathlib.Core.List.{List, _++_}
 use native.Mathlib.Omega.{arith}
 use native.Mathlib.Nat.{zero-add, le-trans, le-of-eq}
@@ -9,21 +8,19 @@ use lib.ListN.{length, getD, drop}
 use lib.Seq.{sets-eq, getD-take}
 use Rattle.theory.proofs.Numbering.{tabulate-getD}
 use Rattle.meaning.specs.Lists.{sumOf}
-use Rattle.meaning.specs.Judge.{linksInRange}
 use Rattle.meaning.specs.Calls.{refused}
 use Rattle.meaning.specs.Program.{printed, shown}
 use Rattle.meaning.proofs.Lists.{getD-sum}
 use Rattle.schema.specs.declared.Schema.{Schema}
-use Rattle.schema.specs.Decoded.{Limits, schemaOf}
+use Rattle.schema.specs.Decoded.{schemaOf}
 use Rattle.instance.specs.declared.Instance.{Instance}
-use Rattle.instance.specs.Decoded as instance
 use Rattle.instance.specs.Decoded.{tablesOf}
 use Rattle.text.specs.Appended.{Room, Appended, headerText, refusalText}
 use Rattle.text.specs.Rows.{ColumnsFit}
 use Rattle.text.specs.Written.{maxTextBytes, Written, migratedOf, Printable}
 use Rattle.text.proofs.Appending.{appended-then, room-first, room-then}
 use Rattle.text.proofs.Printing.{refusal-line}
-use Rattle.text.proofs.TextLength.{refusal-length, printed-length, targets-below}
+use Rattle.text.proofs.TextLength.{refusal-length, printed-length}
 use Rattle.text.proofs.ArrayTexts.{countsOf, sourceOf, nodeOf, rowsText, edges-long, attributes-long, Sized, source-long, node-long, counts-long, printed-same}
 
 written : {text l : List ℕ} {r : ℕ} {m : List ℕ} → Room l 0 text → Appended l 0 text r m → Written text l (record { length = r }) m
@@ -42,16 +39,6 @@ module _ {l : List ℕ} (long : maxTextBytes ≤ length l) (number place : ℕ) 
   refusal-written A = rw (refusal-line number place) (written refusal-room A)
 
 -- ---- tables
-
--- what the judge of an instance sees to
-pub printable : {t : Schema} {i : Instance} {links values : List ℕ} → Limits t → instance.Room links values → sumOf (tablesOf t i links values .counts) ≤ 512 → linksInRange (schemaOf t) (tablesOf t i links values) ≡ true
-    → Printable t i links values
-printable {t} {i} {links} {values} L R few h = record {
-  limits = L;
-  room = R;
-  rows = few;
-  targets = λ e l. targets-below (schemaOf t) (tablesOf t i links values) few h e (omega (arith, edges-long t));
-}
 
 module _ (t : Schema) (i : Instance) (links values : List ℕ) (Z : Sized t i) (P : Printable t i links values) where
   -- ---- what the arrays hold

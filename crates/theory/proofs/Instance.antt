@@ -53,13 +53,6 @@ module _ {W : Type 0} {S : Schema} (S-is : IsSchema S) where
     value = λ a i x r. sym (h .value a i x (rw (h .count (S .home a) (S-is .home-in a i)) r));
   }
 
-  pub alike-trans : {I J K : Instance W} → Alike S I J → Alike S J K → Alike S I K
-  alike-trans h k = record {
-    count = λ c i. h .count c i ∙ k .count c i;
-    link = λ e i x r. h .link e i x r ∙ k .link e i x (rw (h .count (S .src e) (S-is .src-in e i)) at r);
-    value = λ a i x r. h .value a i x r ∙ k .value a i x (rw (h .count (S .home a) (S-is .home-in a i)) at r);
-  }
-
 module _ {W : Type 0} {InRange : ℕ → W → Type 0} {S : Schema} {I J : Instance W} (I-is : IsInstance InRange S I) (h : Alike S I J) where
   pub alike-follow : (s : ℕ) (p : List ℕ) → IsPath S s p → (x : ℕ) → x < I .count s → follow (I .link) p x ≡ follow (J .link) p x
   alike-follow s [] j x r = refl

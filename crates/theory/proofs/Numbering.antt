@@ -133,9 +133,3 @@ joined-place w (suc k) c x h r = elim (ℕ-discrete c k) [
       let m : sum w c + x < sum w k = sum-mono w k c x (omega arith) r in
       List·getD-append (joined w k) (tabulate (w k) (λ x. (k, x))) (0, 0) (sum w c + x) (rw joined-length m) ∙ joined-place w k c x (omega arith) r
 ]
-
--- the row with the number n stands at n
-pub joined-locate : (w : ℕ → ℕ) (k n : ℕ) → n < sum w k → getD (joined w k) n (0, 0) ≡ locate w k n
-joined-locate w k n h =
-    let f = locate-found w k n h in
-    ap (λ (j : ℕ). getD (joined w k) j (0, 0)) (sym (f .number)) ∙ joined-place w k (locate w k n .0) (locate w k n .1) (f .table) (f .row)

@@ -57,9 +57,6 @@ pathBefore-trans p q r (inl h) (inr k) = inl (omega arith)
 pathBefore-trans p q r (inr h) (inl k) = inl (omega arith)
 pathBefore-trans p q r (inr h) (inr k) = inr (h .0 ∙ k .0, lex-trans p q r (h .1) (k .1))
 
-pub pathBefore-asym : (p q : List ℕ) → PathBefore p q → PathBefore q p → ⊥
-pathBefore-asym p q h k = pathBefore-irreflexive p (pathBefore-trans p q p h k)
-
 pub pathBefore-compare : (p q : List ℕ) → (p ≡ q) ⊎ (PathBefore p q ⊎ PathBefore q p)
 pathBefore-compare p q = go (decLt (length p) (length q)) (ℕ-discrete (length p) (length q))
   where

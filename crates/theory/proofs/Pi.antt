@@ -99,25 +99,3 @@ module _ {W : Type 0} {F : Mapping} (F-is : IsMapping F) {I P : Instance W} {com
           let d = F .T .home (F .attribute a) in
           rw (P-is .value a h n k, F-is .attribute-kind a h) (I-is .value-in a h (row d n (F .S .home a) [])
           (P-is .family d (F-is .T-is .home-in (F .attribute a) (F-is .attribute-in a h)) n k .row-in (F .S .home a) [] (object-attribute F-is a h)))
-
-  -- what is alike to Pi is Pi
-  pub pi-alike : {Q : Instance W} → Alike (F .T) P Q → IsPi F I Q components row
-  pi-alike {Q} a = record {
-    components-are = P-is .components-are;
-    family = λ d h n k. P-is .family d h n (back d h n k);
-    every = λ d h x f. let r = P-is .every d h x f in (r .0, rw (a .count d h) at (r .1), r .2);
-    ordered = λ d h n m i k. P-is .ordered d h n m i (back d h m k);
-    link-in = λ e h n k.
-        let j = back (F .T .src e) (F-is .T-is .src-in e h) n k in
-        rw (← a .link e h n j, ← a .count (F .T .tgt e) (F-is .T-is .tgt-in e h)) (P-is .link-in e h n j);
-    link = λ e h n k c g o.
-        let j = back (F .T .src e) (F-is .T-is .src-in e h) n k in
-        ap (λ (m : ℕ). row (F .T .tgt e) m c g) (sym (a .link e h n j)) ∙ P-is .link e h n j c g o;
-    value = λ b h n k.
-        let i = F-is .attribute-in b h in
-        let j = back (F .T .home (F .attribute b)) (F-is .T-is .home-in (F .attribute b) i) n k in
-        sym (a .value (F .attribute b) i n j) ∙ P-is .value b h n j;
-  }
-    where
-      back : (d : ℕ) → d < F .T .nodes → (n : ℕ) → n < Q .count d → n < P .count d
-      back d h n k = rw (a .count d h) k

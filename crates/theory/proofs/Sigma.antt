@@ -75,14 +75,6 @@ module _ {W : Type 0} {F : Mapping} (F-is : IsMapping F) {I P : Instance W} (s :
       ∙ sum-swap (share F I) (F .T .nodes) (F .S .nodes)
       ∙ sum-ext (λ c. sum (λ d. share F I d c) (F .T .nodes)) (I .count) (F .S .nodes) (λ c h. sum-one (F .node c) (I .count c) (F .T .nodes) (F-is .node-in c h))
 
-  -- what is alike to Sigma is Sigma
-  pub sigma-alike : {Q : Instance W} → Alike (F .T) P Q → IsSigma F I Q
-  sigma-alike h = record {
-    count = λ d i. sym (h .count d i) ∙ s .count d i;
-    link = λ c x i r e p o j k. sym (h .link e j (place F I c x) (rw k (sigma-place c x i r))) ∙ s .link c x i r e p o j k;
-    value = λ c x i r b a o j k. sym (h .value b j (place F I c x) (rw k (sigma-place c x i r))) ∙ s .value c x i r b a o j k;
-  }
-
 module _ {W : Type 0} {InRange : ℕ → W → Type 0} {F : Mapping} (F-is : IsMapping F) (even : Even F) {I : Instance W} (I-is : IsInstance InRange (F .S) I) where
   module _ {P : Instance W} (s : IsSigma F I P) where
     -- a path of T leads from a row's place to the place to which any lift of it leads from the row

@@ -4,7 +4,7 @@ use mathlib.Core.List.{List, [], _∷_}
 use Prim.Native.Nat.{ℕ, _<_}
 use lib.ListN.{length}
 use Rattle.theory.specs.Schema.{endpoint}
-use Rattle.theory.specs.Instance.{Instance, IsInstance, follow, rows, Alike}
+use Rattle.theory.specs.Instance.{Instance, IsInstance, follow, rows}
 use Rattle.theory.specs.Mapping.{Mapping, IsMapping, image, Even, delta}
 use Rattle.theory.specs.Sigma.{place, IsSigma}
 use Rattle.theory.specs.Matching.{IsHomomorphism, IsMatching, partner}
@@ -12,7 +12,7 @@ use Rattle.theory.specs.Transposition.{raw, pushed, toRaw, toPushed, Cor
 use Rattle.theory.proofs.Schema.{path-end, path-edge}
 use Rattle.theory.proofs.Instance.{follow-in, follow-chain}
 use Rattle.theory.proofs.Mapping.{image-end, image-path, delta-follow, lift-end, lift-image}
-use Rattle.theory.proofs.Sigma.{origin-place, sigma-place, sigma-each-row, sigma-follow, sigma-is, sigma-alike}
+use Rattle.theory.proofs.Sigma.{origin-place, sigma-place, sigma-each-row, sigma-follow, sigma-is}
 use Rattle.theory.proofs.Matching.{partner-partners, partners-partner, homomorphism-follow, partners-matching}
 
 pub pushed-place : {W : Type 0} (F : Mapping) (I : Instance W) (r : ℕ → ℕ → ℕ) (c x : ℕ) → c < F .S .nodes → x < I .count c → pushed F I r (F .node c) (place F I c x) ≡ r c x
@@ -94,8 +94,3 @@ corresponds InRange F F-is even I P J I-is s J-is = record {
   toRaw-meets = toRaw-meets F-is even I-is s J-is;
   toPushed-meets = toPushed-meets F-is even I-is s J-is;
 }
-
--- and so for any tables that are alike to Sigma
-pub corresponds-alike : {W : Type 0} (InRange : ℕ → W → Type 0) (F : Mapping) → IsMapping F → Even F → (I P Q J : Instance W)
-    → IsInstance InRange (F .S) I → IsSigma F I P → Alike (F .T) P Q → IsInstance InRange (F .T) J → Corresponds F I Q J
-corresponds-alike InRange F F-is even I P Q J I-is s a J-is = corresponds InRange F F-is even I Q J I-is (sigma-alike F-is s a) J-is
