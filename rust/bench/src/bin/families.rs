@@ -87,16 +87,19 @@ fn puzzles() -> Vec<Puzzle> {
     let of = Puzzle::of_pairs;
     let mut most_of_seven = clique(7);
     most_of_seven.retain(|&pair| pair != (0, 1) && pair != (0, 2));
-    let petersen: Pairs = (0..5)
+    let ten_points: Pairs = (0..5)
         .flat_map(|n| [(n, (n + 1) % 5), (n, n + 5), (n + 5, (n + 2) % 5 + 5)])
         .chain([(0, 6), (1, 7), (2, 8), (3, 9), (4, 5)])
         .collect();
+    let mut two_groups = clique(4);
+    two_groups.extend(clique(5).iter().map(|&(a, b)| (a + 4, b + 4)));
     vec![
         doubled("32 components of 2 rows, 32 over no row", 0),
         doubled("32 components of 2 rows, 32 over 1 row", 1),
-        of("20 edges on 10 points in 3 colours", &petersen, 3, &coloured(3, 3), 1),
+        of("20 edges on 10 points in 3 colours", &ten_points, 3, &coloured(3, 3), 1),
         of("5 points all different in 4 colours", &clique(5), 4, &coloured(4, 4), 1),
         of("6 points all different in 5 colours", &clique(6), 5, &coloured(5, 5), 1),
+        of("4 points that can differ, 5 that cannot", &two_groups, 4, &coloured(4, 4), 1),
         of("ring of 21, each row forced, 128 rows", &ring(21), 128, &ring(128), 1),
         of("ring of 27, each row forced, 250 rows", &ring(27), 250, &ring(250), 1),
         of("6 points, all pairs, 24 of 5 colours", &clique(6), 24, &coloured(24, 5), 1),
