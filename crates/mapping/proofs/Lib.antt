@@ -12,3 +12,4 @@ pub mod Columns
 pub mod EvenColumns
 pub mod LiftPaths
 pub mod JoinedRows
+pub mod PathEdges

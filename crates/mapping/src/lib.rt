@@ -1,6 +1,7 @@
 // Mappings: the judge of a mapping sheet, images of paths, evenness and lifts.
 pub mod attributes;
 pub mod decode;
+pub mod edges;
 pub mod even;
 pub mod fits;
 pub mod images;

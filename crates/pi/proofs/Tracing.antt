@@ -29,8 +29,8 @@ use Rattle.mapping.specs.declared.Mapping.{Mapping}
 use Rattle.mapping.specs.Decoded.{mappingOf}
 use Rattle.mapping.proofs.ImageTable.{formed}
 use Rattle.instance.proofs.SoundSchema.{source-in, target-in}
-use Rattle.sigma.specs.Lifted.{edgesOf}
-use Rattle.sigma.proofs.PathEdges.{edges-are}
+use Rattle.mapping.specs.PathEdges.{pathEdges}
+use Rattle.mapping.proofs.PathEdges.{edges-are}
 use Rattle.pi.specs.declared.components.Components.{Components}
 use Rattle.pi.specs.Given.{Mapped}
 use Rattle.pi.specs.Components.{componentsOf, componentOf}
@@ -56,7 +56,7 @@ module _ {s t : Schema} {tp : Paths} {f : Mapping} {k : Components} (M : Mapped 
 
   pub record Numbered : Type 0 where
     pub below : getD (k .first) (64 * d + j) 0 < tp .count
-    pub edges : edgesOf tp (getD (k .first) (64 * d + j) 0) ≡ first .edges
+    pub edges : pathEdges tp (getD (k .first) (64 * d + j) 0) ≡ first .edges
     pub short : getD (tp .length) (getD (k .first) (64 * d + j) 0) 0 ≤ 15
     pub joined : joins G d (first .edges) ≡ true
 

@@ -12,7 +12,7 @@ use Rattle.schema.specs.declared.Graph.{Graph}
 use Rattle.schema.specs.declared.Paths.{Paths}
 use Rattle.schema.specs.PathWalks.{walkFrom, WalkIn}
 use Rattle.instance.specs.Decoded.{firstOf, columnOf}
-use Rattle.sigma.specs.Lifted.{edgesOf}
+use Rattle.mapping.specs.PathEdges.{pathEdges}
 use Rattle.pi.specs.declared.components.Components.{Components}
 use Rattle.pi.specs.declared.links.Block.{Block}
 use Rattle.pi.specs.Components.{placeOf}
@@ -21,13 +21,13 @@ use Rattle.pi.specs.Components.{placeOf}
 
 -- the number of edge e, from node d on, followed by path i
 abbrev pub afterEdge : Paths → ℕ → ℕ → ℕ → ℕ
-afterEdge p d e i = walkFrom (p .first) (p .rank) d (e ∷ edgesOf p i)
+afterEdge p d e i = walkFrom (p .first) (p .rank) d (e ∷ pathEdges p i)
 
 pub record Extends (p : Paths) (d e i : ℕ) : Type 0 where
   pub path-low : i < 256
   pub short : getD (p .length) i 0 ≤ 15
   pub next-low : getD (p .first) d 0 + getD (p .rank) e 0 < 257
-  pub within : WalkIn (p .first) (p .rank) d (e ∷ edgesOf p i)
+  pub within : WalkIn (p .first) (p .rank) d (e ∷ pathEdges p i)
 
 -- ---- the place at edge e's source of component j of its target
 

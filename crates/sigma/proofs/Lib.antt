@@ -1,4 +1,3 @@
 pub mod Joining
 pub mod Lifting
-pub mod PathEdges
 pub mod Pushing

@@ -41,16 +41,17 @@ use Rattle.instance.proofs.Following.{count-at, rows-few, Led, led}
 use Rattle.mapping.specs.declared.Mapping.{Mapping}
 use Rattle.mapping.specs.Decoded.{mappingOf}
 use Rattle.mapping.specs.Lifts.{IsLift, EdgeLifts, joinedBefore}
+use Rattle.mapping.specs.PathEdges.{pathEdges}
 use Rattle.mapping.proofs.Viewing.{node-at, attributes-count, attribute-is}
 use Rattle.mapping.proofs.ImageTable.{formed}
 use Rattle.mapping.proofs.JoinedRows.{first-row, joined-length}
 use Rattle.mapping.proofs.Columns.{attribute-over}
+use Rattle.mapping.proofs.PathEdges.{edges-are}
 use Rattle.delta.proofs.Pulling.{tabulate-upto}
 use Rattle.sigma.specs.Joined.{JoinedColumns, overAttribute, valueOver}
-use Rattle.sigma.specs.Lifted.{edgesOf, liftRow, LiftLeads}
+use Rattle.sigma.specs.Lifted.{liftRow, LiftLeads}
 use Rattle.sigma.specs.Pushed.{Counted, AllLead, Pushable, sigmaOf, Pushed}
 use Rattle.sigma.proofs.Joining.{before-more, before-skip, joined-room}
-use Rattle.sigma.proofs.PathEdges.{edges-are}
 
 -- ---- a joined list, node by node
 tabulate-plus : {A : Type 0} (a b : ℕ) (f : ℕ → A) → tabulate (a + b) f ≡ tabulate a f ++ tabulate b (λ i. f (a + i))
@@ -149,7 +150,7 @@ module _ {s t : Schema} {sp tp : Paths} {f : Mapping} {run : Instance} {links va
       below : number < sp .count
       start : p .start ≡ c
       is-path : IsPath (views.schemaOf S) c (p .edges)
-      edges-is : edgesOf sp number ≡ p .edges
+      edges-is : pathEdges sp number ≡ p .edges
       end-is : getD (sp .end) number 0 ≡ end G p
       end-in : end G p < s .graph .nodes
       reached-in : endpoint (target G) c (p .edges) < s .graph .nodes

@@ -1,27 +1,14 @@
--- Paths by their numbers: their edges, and where their rows lead in the joined lists.
-use Prim.Native.Nat.{ℕ, zero, suc, _+_, _*_, _≤_, _<_}
+-- Paths by their numbers: where their rows lead in the joined lists.
+use Prim.Native.Nat.{ℕ, _+_, _*_, _≤_, _<_}
 use mathlib.Core.Path.{_≡_}
-use mathlib.Core.List.{List, [], _∷_, _++_}
-use lib.ListN.{length, getD}
+use mathlib.Core.List.{List}
+use lib.ListN.{getD}
 use Rattle.theory.specs.Instance.{follow}
 use Rattle.schema.specs.declared.Paths.{Paths}
 use Rattle.instance.specs.Followed.{linkIn}
-use Rattle.mapping.specs.declared.Image.{Image}
-use Rattle.mapping.specs.Decoded.{imageOf}
+use Rattle.mapping.specs.PathEdges.{pathEdges}
 use Rattle.mapping.specs.Lifts.{joinedBefore}
 use Rattle.delta.specs.Stored.{Leads}
-
--- the last n edges of path i, by the last edge of each path and the path without it
-abbrev pub edgesBack : List ℕ → List ℕ → ℕ → ℕ → List ℕ
-edgesBack last parent i zero = []
-edgesBack last parent i (suc n) = edgesBack last parent (getD parent i 0) n ++ (getD last i 0 ∷ [])
-
-abbrev pub edgesOf : Paths → ℕ → List ℕ
-edgesOf p i = edgesBack (p .last) (p .parent) i (getD (p .length) i 0)
-
-pub record EdgesTaken (p : Paths) (i : ℕ) (r : Image) : Type 0 where
-  pub says : imageOf r ≡ edgesOf p i
-  pub short : r .length ≤ 15
 
 -- the place of the first row of path i's end in its joined list
 abbrev pub endRow : Paths → List ℕ → List ℕ → ℕ → ℕ
@@ -29,7 +16,7 @@ endRow p node counts i = joinedBefore node counts (getD node (getD (p .end) i 0)
 
 -- the place to which path i leads from row x
 abbrev pub liftRow : Paths → List ℕ → List ℕ → List ℕ → ℕ → ℕ → ℕ
-liftRow p node counts links i x = endRow p node counts i + follow (linkIn links) (edgesOf p i) x
+liftRow p node counts links i x = endRow p node counts i + follow (linkIn links) (pathEdges p i) x
 
 -- what following path i from each of the first rows relies on
 pub record LiftLeads (p : Paths) (node counts links : List ℕ) (i rows : ℕ) : Type 0 where
@@ -37,7 +24,7 @@ pub record LiftLeads (p : Paths) (node counts links : List ℕ) (i rows : ℕ) :
   pub short : getD (p .length) i 0 ≤ 15
   pub end-in : getD (p .end) i 0 < 16
   pub few : endRow p node counts i ≤ 512
-  pub leads : Leads links (edgesOf p i) rows
+  pub leads : Leads links (pathEdges p i) rows
 
 -- the same of the lifts of edge e at each node over d, where that of node c stands at 16 * e + c
 pub record LiftsLead (p : Paths) (node counts lifts links : List ℕ) (n e d : ℕ) : Type 0 where

@@ -5,6 +5,8 @@ use instance::decode::wide;
 use instance::follow::follow;
 use mapping::Image;
 use mapping::Mapping;
+use mapping::edges::path_edges;
+use mapping::images::index;
 use mapping::lifts::first_over;
 use mapping::lifts::rows_before;
 use schema::Paths;
@@ -18,7 +20,7 @@ ghost use Rattle.instance.specs.Followed.{linkIn};
 ghost use Rattle.mapping.specs.Decoded.{imageOf};
 ghost use Rattle.delta.specs.Stored.{Leads, Stored};
 ghost use Rattle.sigma.specs.Joined.{JoinedStored, valueOver};
-ghost use Rattle.sigma.specs.Lifted.{EdgesTaken, LiftLeads, LiftsLead, liftRow};
+ghost use Rattle.sigma.specs.Lifted.{LiftLeads, LiftsLead, liftRow};
 
 // The column at node c over attribute b: its first rows, copied.
 pub fn copy_over(
@@ -67,33 +69,6 @@ pub fn value_column(
     }
 }
 
-// A path number, or a node, as an index.
-fn number(x: u8) -> usize
-    ensures { λ r. ⌜ (r ≡ x) × (r < 256) ⌝ }
-{
-    x as usize
-}
-
-// The edges of path i, from the last back to the first.
-pub fn path_edges(p: Paths, i: usize) -> Image
-    requires { ⌜ (i < 256) × (getD (p .length) i 0 ≤ 15) ⌝ }
-    ensures { λ r. ⌜ EdgesTaken p i r ⌝ }
-{
-    let mut edges = [0u8; 16];
-    let n = number(p.length[i]);
-    let mut k = n;
-    let mut x = i;
-    while 0 < k {
-        k -= 1;
-        edges[k] = p.last[x];
-        x = number(p.parent[x]);
-    }
-    Image {
-        length: n,
-        edges: edges,
-    }
-}
-
 // The places to which edges lead each of the first rows, where the end's rows begin at first.
 pub fn place_column(
     links: &[u32],
@@ -130,7 +105,7 @@ pub fn lift_rows(
     ensures { λ _. ⌜ Stored (liftRow p (f .node) (run .counts) (now (links .entry)) i) rows base (now (out .entry)) (now (out .exit)) ⌝ }
 {
     let image = path_edges(p, i);
-    let end = number(p.end[i]);
+    let end = index(p.end[i]);
     let d = f.node[end];
     let first = rows_before(&f.node, &run.counts, end, d);
     place_column(links, image, first, rows, &mut *out, base);
@@ -159,7 +134,7 @@ pub fn link_column(
         c += 1;
         if f.node[k] == d {
             let rows = wide(run.counts[k]);
-            let i = number(lifts[16 * e + k]);
+            let i = index(lifts[16 * e + k]);
             lift_rows(p, f, run, links, i, rows, &mut *out, place);
             place += rows;
         }

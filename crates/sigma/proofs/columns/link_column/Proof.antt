@@ -41,23 +41,23 @@ element-copy-out-wide c = omega (arith, c .before .before .before .before .befor
 wide-requires : tie.Need-wide-requires Inv-loop μ-loop
 wide-requires c κs = search needs
 
-mul-number : tie.Need-mul-number Inv-loop μ-loop
-mul-number c = omega (arith, c .before .before .before .before .before .before .before .before .before .pre .2)
+mul-index : tie.Need-mul-index Inv-loop μ-loop
+mul-index c = omega (arith, c .before .before .before .before .before .before .before .before .before .pre .2)
 
-add-number : tie.Need-add-number Inv-loop μ-loop
-add-number c = omega (arith, c .before .before .before .before .before .before .before .before .before .pre .2, c .before .before .before .before .before .before .before .before .before .pre .0, c .before .before .before .before .loop-test .taken)
+add-index : tie.Need-add-index Inv-loop μ-loop
+add-index c = omega (arith, c .before .before .before .before .before .before .before .before .before .pre .2, c .before .before .before .before .before .before .before .before .before .pre .0, c .before .before .before .before .loop-test .taken)
 
-shared-slice-read-number : tie.Need-shared-slice-read-number Inv-loop μ-loop
-shared-slice-read-number c = omega (arith, c .before .before .before .before .before .before .before .before .before .before .pre .2, c .before .before .before .before .before .before .before .before .before .before .pre .0, c .before .before .before .before .before .before .before .before .before .before .pre .3, c .before .before .before .before .before .loop-test .taken)
+shared-slice-read-index : tie.Need-shared-slice-read-index Inv-loop μ-loop
+shared-slice-read-index c = omega (arith, c .before .before .before .before .before .before .before .before .before .before .pre .2, c .before .before .before .before .before .before .before .before .before .before .pre .0, c .before .before .before .before .before .before .before .before .before .before .pre .3, c .before .before .before .before .before .loop-test .taken)
 
-number-requires : tie.Need-number-requires Inv-loop μ-loop
-number-requires c κs = search needs
+index-requires : tie.Need-index-requires Inv-loop μ-loop
+index-requires c κs = search needs
 
 lift-rows-requires : tie.Need-lift-rows-requires Inv-loop μ-loop
 lift-rows-requires c κs =
     let w : joinedBefore (c .before .before .before .before .before .before .before .before .before .before .before .before .args .t3 .node) (c .before .before .before .before .before .before .before .before .before .before .before .before .args .t4 .counts) (c .before .before .before .before .before .before .before .before .before .before .before .before .args .d) (c .before .before .before .before .before .before .before .before .loop .c) + getD (c .before .before .before .before .before .before .before .before .before .before .before .before .args .t4 .counts) (c .before .before .before .before .before .before .before .before .loop .c) 0 ≤ 512 = joined-room (c .before .before .before .before .before .before .before .before .before .before .before .before .args .t3 .node) (c .before .before .before .before .before .before .before .before .before .before .before .before .args .t4 .counts) (c .before .before .before .before .before .before .before .before .before .before .before .before .args .d) (c .before .before .before .before .before .before .before .before .loop .c) (c .before .before .before .before .before .before .before .before .before .before .before .before .args .s .graph .nodes) (c .before .before .before .before .before .before .before .before .before .before .before .before .pre .1 .rows) (c .before .before .before .before .before .before .before .loop-test .taken) (c .before .before .before .before .before .if1 .taken) in
     let r : c .before .before .before .wide .result ≡ getD (c .before .before .before .before .before .before .before .before .before .before .before .before .args .t4 .counts) (c .before .before .before .before .before .before .before .before .loop .c) 0 = c .before .before .before .wide .ensures in
-    (lifted-at (c .before .number .ensures .0) r (c .before .before .before .before .before .before .before .before .before .before .before .before .pre .4 .each (c .before .before .before .before .before .before .before .before .loop .c) (c .before .before .before .before .before .before .before .loop-test .taken) (c .before .before .before .before .before .if1 .taken)), omega (arith, r, w, c .before .before .before .before .before .before .before .before .before .before .before .before .pre .5, c .before .before .before .before .before .before .before .before .loop .inv .1, c .before .before .before .before .before .before .before .before .loop .inv .2 .long))
+    (lifted-at (c .before .index .ensures .0) r (c .before .before .before .before .before .before .before .before .before .before .before .before .pre .4 .each (c .before .before .before .before .before .before .before .before .loop .c) (c .before .before .before .before .before .before .before .loop-test .taken) (c .before .before .before .before .before .if1 .taken)), omega (arith, r, w, c .before .before .before .before .before .before .before .before .before .before .before .before .pre .5, c .before .before .before .before .before .before .before .before .loop .inv .1, c .before .before .before .before .before .before .before .before .loop .inv .2 .long))
 
 add-place : tie.Need-add-place Inv-loop μ-loop
 add-place c =
@@ -74,7 +74,7 @@ loop-again c =
     let l = c .before .before .before .before .before .before .before .before .before .before .loop-test .taken in
     let i = c .before .before .before .before .before .before .before .before .if1 .taken in
     let r = c .before .before .before .before .before .before .wide .ensures in
-    (omega (arith, l), ap (λ (n : ℕ). n + c .before .before .before .before .before .before .wide .result) (v .1) ∙ joined-next (c .before .before .before .before .before .before .before .before .before .before .before .before .before .before .before .args .t3 .node) (c .before .before .before .before .before .before .before .before .before .before .before .before .before .before .before .args .t4 .counts) (c .before .before .before .before .before .before .before .before .before .before .before .before .before .before .before .args .d) (c .before .before .before .before .before .before .before .before .before .before .before .loop .c) (512 * c .before .before .before .before .before .before .before .before .before .before .before .before .before .before .before .args .e) (c .before .before .before .before .before .before .wide .result) r i, joined-more (v .2) i (stored-at r (v .1) (stored-path (c .before .before .before .before .before .before .before .before .before .before .before .before .before .before .before .args .p) (c .before .before .before .before .before .before .before .before .before .before .before .before .before .before .before .args .t3 .node) (c .before .before .before .before .before .before .before .before .before .before .before .before .before .before .before .args .t4 .counts) (c .before .before .before .before .before .before .before .before .before .before .before .before .before .before .before .args .links .now) (c .before .before .before .before .number .ensures .0) (c .before .before .lift-rows .ensures))))
+    (omega (arith, l), ap (λ (n : ℕ). n + c .before .before .before .before .before .before .wide .result) (v .1) ∙ joined-next (c .before .before .before .before .before .before .before .before .before .before .before .before .before .before .before .args .t3 .node) (c .before .before .before .before .before .before .before .before .before .before .before .before .before .before .before .args .t4 .counts) (c .before .before .before .before .before .before .before .before .before .before .before .before .before .before .before .args .d) (c .before .before .before .before .before .before .before .before .before .before .before .loop .c) (512 * c .before .before .before .before .before .before .before .before .before .before .before .before .before .before .before .args .e) (c .before .before .before .before .before .before .wide .result) r i, joined-more (v .2) i (stored-at r (v .1) (stored-path (c .before .before .before .before .before .before .before .before .before .before .before .before .before .before .before .args .p) (c .before .before .before .before .before .before .before .before .before .before .before .before .before .before .before .args .t3 .node) (c .before .before .before .before .before .before .before .before .before .before .before .before .before .before .before .args .t4 .counts) (c .before .before .before .before .before .before .before .before .before .before .before .before .before .before .before .args .links .now) (c .before .before .before .before .index .ensures .0) (c .before .before .lift-rows .ensures))))
 
 loop-less-2 : tie.Need-loop-less-2 Inv-loop μ-loop
 loop-less-2 c = omega (arith, c .before .before .loop-test .taken)
@@ -93,4 +93,4 @@ returns : tie.Need-returns Inv-loop μ-loop
 returns c = joined-done (c .before .loop .inv .2) (c .loop-test .left)
 
 pub link-column-spec : {M : Type 1} → statement M
-link-column-spec = tie.close (tie.spec Inv-loop μ-loop mul-place loop-holds add-c element-copy-out-if1 mul-wide element-copy-out-wide wide-requires mul-number add-number shared-slice-read-number number-requires lift-rows-requires add-place loop-less loop-again loop-less-2 loop-again-2 same-length returns)
+link-column-spec = tie.close (tie.spec Inv-loop μ-loop mul-place loop-holds add-c element-copy-out-if1 mul-wide element-copy-out-wide wide-requires mul-index add-index shared-slice-read-index index-requires lift-rows-requires add-place loop-less loop-again loop-less-2 loop-again-2 same-length returns)

@@ -1,0 +1,20 @@
+-- The edges of a path, by its number in a table of paths.
+use Prim.Native.Nat.{ℕ, zero, suc, _≤_}
+use mathlib.Core.Path.{_≡_}
+use mathlib.Core.List.{List, [], _∷_, _++_}
+use lib.ListN.{getD}
+use Rattle.schema.specs.declared.Paths.{Paths}
+use Rattle.mapping.specs.declared.Image.{Image}
+use Rattle.mapping.specs.Decoded.{imageOf}
+
+-- the last n edges of path i, by the last edge of each path and the path without it
+abbrev pub edgesBack : List ℕ → List ℕ → ℕ → ℕ → List ℕ
+edgesBack last parent i zero = []
+edgesBack last parent i (suc n) = edgesBack last parent (getD parent i 0) n ++ (getD last i 0 ∷ [])
+
+abbrev pub pathEdges : Paths → ℕ → List ℕ
+pathEdges p i = edgesBack (p .last) (p .parent) i (getD (p .length) i 0)
+
+pub record EdgesTaken (p : Paths) (i : ℕ) (r : Image) : Type 0 where
+  pub says : imageOf r ≡ pathEdges p i
+  pub short : r .length ≤ 15
