@@ -10,7 +10,7 @@ use Rattle.theory.specs.Numbering.{sum, locate}
 use Rattle.theory.specs.Instance as theoryInstance
 use Rattle.theory.specs.Mapping as theoryMapping
 use Rattle.theory.specs.Sigma.{share, size, place, origin}
-use Rattle.theory.specs.Matching.{partner, partners}
+use Rattle.theory.specs.Matching.{partner}
 use Rattle.theory.specs.Transposition.{raw, pushed as pushedPartner, toRaw, toPushed}
 use Rattle.theory.proofs.Numbering.{sum-ext, sum-mono, locate-place, tabulate-length}
 use Rattle.theory.proofs.Sigma.{place-in, origin-place, each-row}
@@ -18,7 +18,6 @@ use Rattle.theory.proofs.Matching.{partners-partner}
 use Rattle.theory.proofs.Transposition.{pushed-place}
 use Rattle.meaning.specs.Lists.{sumOf}
 use Rattle.meaning.specs.Formats.{tableList}
-use Rattle.meaning.specs.Views.{instanceOf}
 use Rattle.meaning.specs.Sigma.{fibre, rowsIn}
 use Rattle.agreement.proofs.Joined.{map-upto-getD, rowsIn-share}
 use Rattle.schema.specs.declared.Schema.{Schema}
@@ -31,10 +30,10 @@ use Rattle.mapping.specs.declared.Mapping.{Mapping}
 use Rattle.mapping.specs.Decoded.{mappingOf}
 use Rattle.mapping.proofs.Viewing.{node-at}
 use Rattle.matching.specs.Compared.{partnersOf, firstIn}
-use Rattle.matching.specs.Turned.{mappingBetween, countsOf, shareIn, placeIn, Pushed, Placeable, Placed, Placement, Moveable, Moved}
+use Rattle.matching.specs.Turned.{mappingBetween, countsOf, shareIn, placeIn, PushedCounts, Placeable, Placed, Placement, Moveable, Moved}
 use Rattle.matching.proofs.TableRows.{sum-front, rows-are, first-is, count-is, partner-at}
 
-module _ {s t : Schema} {f : Mapping} {run pushed : Instance} (H : Pushed s t f run pushed) where
+module _ {s t : Schema} {f : Mapping} {run pushed : Instance} (H : PushedCounts s t f run pushed) where
   abbrev n : ℕ
   n = s .graph .nodes
 
@@ -168,13 +167,3 @@ module _ {s t : Schema} {f : Mapping} {run pushed : Instance} (H : Pushed s t f 
         ∙ ap (λ (k : ℕ). getD out k 0) (number-is c x i)
         ∙ sym (partner-at t pushed out (F .node c) (place F I c x) k (place-low c x i r)))
         d y (rw (size-is d l) at h) l))
-
--- ---- a turning looks at the counts alone
-module _ (s t : Schema) (f : Mapping) (run pushed : Instance) (links values links′ values′ : List ℕ) where
-  pub toRaw-counts : (l : List ℕ) → toRaw (mappingBetween s t f) (instanceOf (tablesOf s run links values)) (instanceOf (tablesOf t pushed links′ values′)) l ≡ toRaw (mappingBetween s t f) (countsOf s run) (countsOf t pushed) l
-  unfolding partners share
-  toRaw-counts l = refl
-
-  pub toPushed-counts : (l : List ℕ) → toPushed (mappingBetween s t f) (instanceOf (tablesOf s run links values)) (instanceOf (tablesOf t pushed links′ values′)) l ≡ toPushed (mappingBetween s t f) (countsOf s run) (countsOf t pushed) l
-  unfolding partners share
-  toPushed-counts l = refl

@@ -33,7 +33,7 @@ abbrev pub countsOf : Schema → Instance → theoryInstance.Instance ℕ
 countsOf t i = views.instanceOf (tablesOf t i [] [])
 
 -- `pushed` has the counts of Sigma of the run
-pub record Pushed (s t : Schema) (f : Mapping) (run pushed : Instance) : Type 0 where
+pub record PushedCounts (s t : Schema) (f : Mapping) (run pushed : Instance) : Type 0 where
   pub S-sound : Sound s
   pub T-sound : Sound t
   pub nodes : NodesIn s t f

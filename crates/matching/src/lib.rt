@@ -22,7 +22,7 @@ ghost use Rattle.instance.specs.Decoded.{tablesOf};
 ghost use Rattle.matching.specs.Compared.{partnersOf, existTest, linkTest, valueTest, TablesListed, ColumnsPaired, LinksPaired, Comparable};
 
 // Whether each row of n tables of A has a partner in the same table of B.
-fn partners_exist(n: usize, tables: [Table; 16], counts: &[u32], list: &[u32]) -> bool
+fn partners_exist(n: usize, tables: [Table; Schema::NODES], counts: &[u32], list: &[u32]) -> bool
     requires { ⌜ TablesListed n tables (now list) × (n ≤ length (now counts)) ⌝ }
     ensures { λ r. ⌜ r ≡ all (existTest tables (now (counts .entry)) (now (list .entry))) (tabulate n (λ c. c)) ⌝ }
 {
@@ -44,19 +44,27 @@ fn links_kept(
     nodes: usize,
     source: &[u8],
     target: &[u8],
-    tables: [Table; 16],
+    tables: [Table; Schema::NODES],
     list: &[u32],
-    a: &[u32],
-    b: &[u32],
+    a_links: &[u32],
+    b_links: &[u32],
 ) -> bool
-    requires { ⌜ LinksPaired n nodes (now source) (now target) tables (now list) (now a) (now b) ⌝ }
-    ensures { λ r. ⌜ r ≡ all (linkTest (now (source .entry)) (now (target .entry)) tables (now (list .entry)) (now (a .entry)) (now (b .entry))) (tabulate n (λ e. e)) ⌝ }
+    requires { ⌜ LinksPaired n nodes (now source) (now target) tables (now list) (now «a_links») (now «b_links») ⌝ }
+    ensures { λ r. ⌜ r ≡ all (linkTest (now (source .entry)) (now (target .entry)) tables (now (list .entry)) (now («a_links» .entry)) (now («b_links» .entry))) (tabulate n (λ e. e)) ⌝ }
 {
     let mut e = 0;
     while e < n {
         let from = table_among(tables, nodes, source[e] as usize);
         let to = table_among(tables, nodes, target[e] as usize);
-        if links_agree(list, from.first, to.first, a, b, 512 * e, from.count) {
+        if links_agree(
+            list,
+            from.first,
+            to.first,
+            a_links,
+            b_links,
+            Instance::ROWS * e,
+            from.count,
+        ) {
             e += 1;
         } else {
             return false;
@@ -70,18 +78,25 @@ fn values_kept(
     n: usize,
     nodes: usize,
     node: &[u8],
-    tables: [Table; 16],
+    tables: [Table; Schema::NODES],
     list: &[u32],
-    a: &[u32],
-    b: &[u32],
+    a_values: &[u32],
+    b_values: &[u32],
 ) -> bool
-    requires { ⌜ ColumnsPaired n nodes (now node) tables (now list) (now a) (now b) ⌝ }
-    ensures { λ r. ⌜ r ≡ all (valueTest (now (node .entry)) tables (now (list .entry)) (now (a .entry)) (now (b .entry))) (tabulate n (λ k. k)) ⌝ }
+    requires { ⌜ ColumnsPaired n nodes (now node) tables (now list) (now «a_values») (now «b_values») ⌝ }
+    ensures { λ r. ⌜ r ≡ all (valueTest (now (node .entry)) tables (now (list .entry)) (now («a_values» .entry)) (now («b_values» .entry))) (tabulate n (λ k. k)) ⌝ }
 {
     let mut k = 0;
     while k < n {
         let table = table_among(tables, nodes, node[k] as usize);
-        if values_agree(list, table.first, a, b, 512 * k, table.count) {
+        if values_agree(
+            list,
+            table.first,
+            a_values,
+            b_values,
+            Instance::ROWS * k,
+            table.count,
+        ) {
             k += 1;
         } else {
             return false;

@@ -36,11 +36,11 @@ pub fn links_agree(
 {
     let mut r = 0;
     while r < n {
-        let x = wide(a[base + r]);
-        let y = wide(list[source + r]);
-        let p = list[target + x];
-        let q = b[base + y];
-        if p != q {
+        let target_row = wide(a[base + r]);
+        let partner = wide(list[source + r]);
+        let partner_of_target = list[target + target_row];
+        let target_of_partner = b[base + partner];
+        if partner_of_target != target_of_partner {
             return false;
         }
         r += 1;
@@ -55,10 +55,10 @@ pub fn values_agree(list: &[u32], first: usize, a: &[u32], b: &[u32], base: usiz
 {
     let mut r = 0;
     while r < n {
-        let y = wide(list[first + r]);
-        let p = a[base + r];
-        let q = b[base + y];
-        if p != q {
+        let partner = wide(list[first + r]);
+        let own_value = a[base + r];
+        let partner_value = b[base + partner];
+        if own_value != partner_value {
             return false;
         }
         r += 1;

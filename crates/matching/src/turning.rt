@@ -10,7 +10,7 @@ ghost use Prim.Native.Nat.{_+_, _≤_};
 ghost use lib.ListN.{length};
 ghost use Rattle.theory.specs.Transposition.{toRaw, toPushed};
 ghost use Rattle.matching.specs.Compared.{partnersOf};
-ghost use Rattle.matching.specs.Turned.{mappingBetween, countsOf, Pushed, Placeable, Placed, Placement, Copied, Moveable, Moved};
+ghost use Rattle.matching.specs.Turned.{mappingBetween, countsOf, PushedCounts, Placeable, Placed, Placement, Copied, Moveable, Moved};
 
 // Copies n numbers of list from start on to out from place on.
 fn copy_rows(list: &[u32], start: usize, n: usize, out: &mut [u32], place: usize)
@@ -25,7 +25,13 @@ fn copy_rows(list: &[u32], start: usize, n: usize, out: &mut [u32], place: usize
 }
 
 // Copies the rows of n tables from their places in list to their places in out.
-fn copy_tables(n: usize, from: [Table; 16], list: &[u32], to: [Table; 16], out: &mut [u32])
+fn copy_tables(
+    n: usize,
+    from: [Table; Schema::NODES],
+    list: &[u32],
+    to: [Table; Schema::NODES],
+    out: &mut [u32],
+)
     requires { ⌜ Moveable n from to (now list) (now out) ⌝ }
     ensures { λ _. ⌜ Moved n from to (now (list .entry)) (now (out .exit)) ⌝ }
 {
@@ -40,7 +46,12 @@ fn copy_tables(n: usize, from: [Table; 16], list: &[u32], to: [Table; 16], out: 
 
 // Where the rows of each of n tables of the run stand among all pushed rows: in the joined list at the table's image, after those of lower tables
 // with the same image.
-fn place_tables(n: usize, node: &[u8], own: [Table; 16], joined: [Table; 16]) -> [Table; 16]
+fn place_tables(
+    n: usize,
+    node: &[u8],
+    own: [Table; Schema::NODES],
+    joined: [Table; Schema::NODES],
+) -> [Table; Schema::NODES]
     requires { ⌜ Placeable n (now node) own joined ⌝ }
     ensures { λ r. ⌜ Placed n (now (node .entry)) own joined r ⌝ }
 {
@@ -66,12 +77,12 @@ fn place_tables(n: usize, node: &[u8], own: [Table; 16], joined: [Table; 16]) ->
 
 // Where the rows of each table of the run stand: in the run's list, and among all pushed rows.
 struct Places {
-    own: [Table; 16],
-    joined: [Table; 16],
+    own: [Table; Schema::NODES],
+    joined: [Table; Schema::NODES],
 }
 
 fn places_of(s: Schema, t: Schema, f: Mapping, run: Instance, pushed: Instance) -> Places
-    requires { ⌜ Pushed s t f run pushed ⌝ }
+    requires { ⌜ PushedCounts s t f run pushed ⌝ }
     ensures { λ r. ⌜ Placement s t f run pushed (r .own) (r .joined) ⌝ }
 {
     let counts = run.counts;
@@ -96,12 +107,12 @@ pub fn to_raw(
     list: &[u32],
     out: &mut [u32],
 )
-    requires { ⌜ Pushed s t f run pushed × (512 ≤ length (now list)) × (512 ≤ length (now out)) ⌝ }
+    requires { ⌜ PushedCounts s t f run pushed × (512 ≤ length (now list)) × (512 ≤ length (now out)) ⌝ }
     ensures { λ _. ⌜ partnersOf s run (now (out .exit)) ≡ toRaw (mappingBetween s t f) (countsOf s run) (countsOf t pushed) (partnersOf t pushed (now (list .entry))) ⌝ }
 {
-    let p = places_of(s, t, f, run, pushed);
-    let own = p.own;
-    let joined = p.joined;
+    let places = places_of(s, t, f, run, pushed);
+    let own = places.own;
+    let joined = places.joined;
     copy_tables(s.graph.nodes, joined, list, own, &mut *out);
 }
 
@@ -115,11 +126,11 @@ pub fn to_pushed(
     list: &[u32],
     out: &mut [u32],
 )
-    requires { ⌜ Pushed s t f run pushed × (512 ≤ length (now list)) × (512 ≤ length (now out)) ⌝ }
+    requires { ⌜ PushedCounts s t f run pushed × (512 ≤ length (now list)) × (512 ≤ length (now out)) ⌝ }
     ensures { λ _. ⌜ partnersOf t pushed (now (out .exit)) ≡ toPushed (mappingBetween s t f) (countsOf s run) (countsOf t pushed) (partnersOf s run (now (list .entry))) ⌝ }
 {
-    let p = places_of(s, t, f, run, pushed);
-    let own = p.own;
-    let joined = p.joined;
+    let places = places_of(s, t, f, run, pushed);
+    let own = places.own;
+    let joined = places.joined;
     copy_tables(s.graph.nodes, own, list, joined, &mut *out);
 }

@@ -18,7 +18,7 @@ use Rattle.instance.specs.Decoded.{firstOf, tablesOf}
 use Rattle.delta.proofs.Pulling.{tabulate-upto}
 use Rattle.sigma.specs.Pushed.{Counted}
 use Rattle.matching.specs.Compared.{partnersOf}
-use Rattle.matching.specs.Turned.{mappingBetween, countsOf, Pushed}
+use Rattle.matching.specs.Turned.{mappingBetween, countsOf, PushedCounts}
 use Rattle.migration.specs.declared.sides.Sides.{Sides}
 use Rattle.migration.specs.declared.matchings.Side.the-variants as side
 use Rattle.migration.specs.Turnable.{turnableOf, pushedOf, turnedList, ReadyToTurn}
@@ -37,7 +37,7 @@ module _ {x : Sides} (R : ReadyToTurn x) {p : Instance} (C : Counted (x .opened 
   rows-are : sumOf counts ≡ sumOf (firstOf (x .opened .source .graph .nodes) (x .run .counts))
   rows-are = ap sumOf counts-are ∙ R .rows
 
-  pub may-turn : Pushed (x .opened .source) (x .opened .target) (x .opened .mapping) (x .run) p
+  pub may-turn : PushedCounts (x .opened .source) (x .opened .target) (x .opened .mapping) (x .run) p
   may-turn = record {
     S-sound = R .ready .schemas .source;
     T-sound = R .ready .schemas .target;

@@ -51,23 +51,23 @@ shared-slice-read-wide-2 c = omega (arith, c .before .before .before .before .be
 wide-requires-2 : tie.Need-wide-requires-2 Inv-loop μ-loop
 wide-requires-2 c κs = search needs
 
-add-p : tie.Need-add-p Inv-loop μ-loop
-add-p c = let h = listed c in omega arith
+add-partner-of-target : tie.Need-add-partner-of-target Inv-loop μ-loop
+add-partner-of-target c = let h = listed c in omega arith
 
-mul-p : tie.Need-mul-p Inv-loop μ-loop
-mul-p c = let h = listed c in search needs
+mul-partner-of-target : tie.Need-mul-partner-of-target Inv-loop μ-loop
+mul-partner-of-target c = let h = listed c in search needs
 
-shared-slice-read-p : tie.Need-shared-slice-read-p Inv-loop μ-loop
-shared-slice-read-p c = let h = listed (c .before) in omega arith
+shared-slice-read-partner-of-target : tie.Need-shared-slice-read-partner-of-target Inv-loop μ-loop
+shared-slice-read-partner-of-target c = let h = listed (c .before) in omega arith
 
-add-q : tie.Need-add-q Inv-loop μ-loop
-add-q c = let h = within c in omega arith
+add-target-of-partner : tie.Need-add-target-of-partner Inv-loop μ-loop
+add-target-of-partner c = let h = within c in omega arith
 
-mul-q : tie.Need-mul-q Inv-loop μ-loop
-mul-q c = let h = within c in search needs
+mul-target-of-partner : tie.Need-mul-target-of-partner Inv-loop μ-loop
+mul-target-of-partner c = let h = within c in search needs
 
-shared-slice-read-q : tie.Need-shared-slice-read-q Inv-loop μ-loop
-shared-slice-read-q c = let h = within (c .before) in omega arith
+shared-slice-read-target-of-partner : tie.Need-shared-slice-read-target-of-partner Inv-loop μ-loop
+shared-slice-read-target-of-partner c = let h = within (c .before) in omega arith
 
 returns : tie.Need-returns Inv-loop μ-loop
 returns c = sym (passed-fail (c .before .before .before .before .before .before .before .before .loop .inv) (c .before .before .before .before .before .before .before .loop-test .taken) (ne-eqb _ _ (rw (c .before .before .before .before .before .wide .ensures, c .before .before .before .wide2 .ensures) at (c .if1 .taken))))
@@ -99,12 +99,12 @@ links-agree-spec =
     mul-wide-2
     shared-slice-read-wide-2
     wide-requires-2
-    add-p
-    mul-p
-    shared-slice-read-p
-    add-q
-    mul-q
-    shared-slice-read-q
+    add-partner-of-target
+    mul-partner-of-target
+    shared-slice-read-partner-of-target
+    add-target-of-partner
+    mul-target-of-partner
+    shared-slice-read-target-of-partner
     returns
     add-r
     loop-less

@@ -35,23 +35,23 @@ shared-slice-read-wide c = omega (arith, c .before .before .before .before .befo
 wide-requires : tie.Need-wide-requires Inv-loop μ-loop
 wide-requires c κs = search needs
 
-add-p : tie.Need-add-p Inv-loop μ-loop
-add-p c = omega (arith, c .before .before .before .before .before .before .before .pre .own)
+add-own-value : tie.Need-add-own-value Inv-loop μ-loop
+add-own-value c = omega (arith, c .before .before .before .before .before .before .before .pre .own)
 
-mul-p : tie.Need-mul-p Inv-loop μ-loop
-mul-p c = let h : c .before .before .before .before .before .before .before .args .base + c .before .before .before .loop .r < length (c .before .before .before .before .before .before .before .args .a .now) = omega (arith, c .before .before .before .before .before .before .before .pre .own) in search needs
+mul-own-value : tie.Need-mul-own-value Inv-loop μ-loop
+mul-own-value c = let h : c .before .before .before .before .before .before .before .args .base + c .before .before .before .loop .r < length (c .before .before .before .before .before .before .before .args .a .now) = omega (arith, c .before .before .before .before .before .before .before .pre .own) in search needs
 
-shared-slice-read-p : tie.Need-shared-slice-read-p Inv-loop μ-loop
-shared-slice-read-p c = omega (arith, c .before .before .before .before .before .before .before .before .pre .own)
+shared-slice-read-own-value : tie.Need-shared-slice-read-own-value Inv-loop μ-loop
+shared-slice-read-own-value c = omega (arith, c .before .before .before .before .before .before .before .before .pre .own)
 
-add-q : tie.Need-add-q Inv-loop μ-loop
-add-q c = let h = within c in omega arith
+add-partner-value : tie.Need-add-partner-value Inv-loop μ-loop
+add-partner-value c = let h = within c in omega arith
 
-mul-q : tie.Need-mul-q Inv-loop μ-loop
-mul-q c = let h = within c in search needs
+mul-partner-value : tie.Need-mul-partner-value Inv-loop μ-loop
+mul-partner-value c = let h = within c in search needs
 
-shared-slice-read-q : tie.Need-shared-slice-read-q Inv-loop μ-loop
-shared-slice-read-q c = let h = within (c .before) in omega arith
+shared-slice-read-partner-value : tie.Need-shared-slice-read-partner-value Inv-loop μ-loop
+shared-slice-read-partner-value c = let h = within (c .before) in omega arith
 
 returns : tie.Need-returns Inv-loop μ-loop
 returns c = sym (passed-fail (c .before .before .before .before .before .before .loop .inv) (c .before .before .before .before .before .loop-test .taken) (ne-eqb _ _ (rw (c .before .before .before .wide .ensures) at (c .if1 .taken))))
@@ -79,12 +79,12 @@ values-agree-spec =
     mul-wide
     shared-slice-read-wide
     wide-requires
-    add-p
-    mul-p
-    shared-slice-read-p
-    add-q
-    mul-q
-    shared-slice-read-q
+    add-own-value
+    mul-own-value
+    shared-slice-read-own-value
+    add-partner-value
+    mul-partner-value
+    shared-slice-read-partner-value
     returns
     add-r
     loop-less
