@@ -79,7 +79,7 @@ module _ {s t : Schema} {f : Mapping} {j : Instance} (B : Fitting s t f) (L : Li
     }
 
     -- ---- links
-    module _ (links values : List ℕ) (long : length links ≡ 16384) (in-range : linksInRange (schemaOf t) (J links values) ≡ true) where
+    module _ (links values : List ℕ) (long : 512 * t .graph .edges ≤ length links) (in-range : linksInRange (schemaOf t) (J links values) ≡ true) where
       abbrev LedFrom : ℕ → ℕ → Type 0
       LedFrom e x = Led t (B .target) j links values L long in-range (getD (f .node) (getD (s .graph .source) e 0) 0) (edgesOver f e) x
 
@@ -118,7 +118,7 @@ module _ {s t : Schema} {f : Mapping} {j : Instance} (B : Fitting s t f) (L : Li
             ∙ ap (λ (n : ℕ). map imageLinks (upto n)) (sym (edges-count (s .graph .edges) (s .graph .source) (s .graph .target)))
 
     -- ---- values
-    pub attribute-images : {values : List ℕ} → length (s .node) ≡ 16 → length (f .attribute) ≡ 16 → length values ≡ 8192 → AttributeImages (s .attributes) (s .node) (f .attribute) (d .counts) values
+    pub attribute-images : {values : List ℕ} → length (s .node) ≡ 16 → length (f .attribute) ≡ 16 → 512 * t .attributes ≤ length values → AttributeImages (s .attributes) (s .node) (f .attribute) (d .counts) values
     attribute-images node-long attribute-long long = record {
       few = B .source .limits .attributes;
       columns = columns (s .node) (s .attributes) (omega (arith, B .source .limits .attributes)) (home-in s (B .source));

@@ -16,7 +16,7 @@ ghost use Prim.Native.Nat.{ℕ, _*_, _≤_, _<_};
 ghost use lib.ListN.{length, getD};
 ghost use Rattle.meaning.specs.Judge.{linksInRange};
 ghost use Rattle.schema.specs.Decoded.{schemaOf};
-ghost use Rattle.instance.specs.Decoded.{rowsOf, tablesOf, Columns, Limits, Room};
+ghost use Rattle.instance.specs.Decoded.{rowsOf, tablesOf, Columns, Limits, RoomFor};
 ghost use Rattle.delta.specs.Stored.{ColumnsStored};
 ghost use Rattle.delta.specs.Pulled.{Fitting, EdgeImages, imageRow, AttributeImages, imageValue, Counted, Pulled};
 
@@ -87,7 +87,7 @@ pub fn delta(
     followed: &mut [u32],
     copied: &mut [u32],
 ) -> Instance
-    requires { ⌜ Fitting s t f × Limits t j × (linksInRange (schemaOf t) (tablesOf t j (now links) []) ≡ true) × Room (now links) (now values) × Room (now followed) (now copied) ⌝ }
+    requires { ⌜ Fitting s t f × Limits t j × (linksInRange (schemaOf t) (tablesOf t j (now links) []) ≡ true) × RoomFor t (now links) (now values) × RoomFor s (now followed) (now copied) ⌝ }
     ensures { λ r. ⌜ Pulled s t f j (now (links .entry)) (now (values .entry)) r (now (followed .exit)) (now (copied .exit)) ⌝ }
 {
     let d = delta_counts(s, t, f, j);

@@ -78,7 +78,7 @@ module _ (t : Schema) (A : Sound t) (i : declared.Instance) (links values : List
       (all-same _ _ (t .attributes) (λ a. a) (λ a. a) (values-at ks))
 
   -- ---- links followed
-  module _ (L : Limits t i) (long : length links ≡ 16384) (in-range : linksInRange (schemaOf t) I ≡ true) where
+  module _ (L : Limits t i) (long : 512 * t .graph .edges ≤ length links) (in-range : linksInRange (schemaOf t) I ≡ true) where
     pub rows-few : (c : ℕ) → c < t .graph .nodes → getD (i .counts) c 0 ≤ 512
     rows-few c l = le-trans (sumOf-part (t .graph .nodes) (λ k. getD (i .counts) k 0) c l) (L .rows)
 

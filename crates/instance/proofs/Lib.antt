@@ -7,3 +7,4 @@ pub mod TableList
 pub mod Judging
 pub mod Writing
 pub mod Lent
+pub mod Rooms

@@ -1,10 +1,10 @@
 -- What the structs and the working arrays of an instance mean, and what the decoder promises of them.
 use Prim.Native.Nat.{ℕ, _+_, _*_, _^_, _≤_, _<_}
 use mathlib.Core.Path.{_≡_}
-use mathlib.Core.Bool.{cond}
+use mathlib.Core.Bool.{Bool, cond, _&&_}
 use mathlib.Core.List.{List}
 use lib.ListN.{length, getD, replicate}
-use lib.Dec.{eqb}
+use lib.Dec.{eqb, leb}
 use Rattle.bits.specs.Field as bits
 use Rattle.theory.specs.Numbering.{tabulate}
 use Rattle.meaning.specs.Lists.{sumOf}
@@ -49,10 +49,19 @@ emptyInstance number = record { fault = number; counts = replicate 16 0 }
 
 -- ---- what a call is lent
 
--- the working arrays
+-- working arrays for the instances of every schema
 pub record Room (links values : List ℕ) : Type 0 where
   pub for-links : length links ≡ 16384
   pub for-values : length values ≡ 8192
+
+-- working arrays for the instances of a schema
+pub record RoomFor (t : Schema) (links values : List ℕ) : Type 0 where
+  pub for-links : 512 * t .graph .edges ≤ length links
+  pub for-values : 512 * t .attributes ≤ length values
+
+-- at most 4 edges and at most 4 attributes
+abbrev pub hasFewColumns : Schema → Bool
+hasFewColumns t = leb (t .graph .edges) 4 && leb (t .attributes) 4
 
 -- ---- fields of one width
 

@@ -13,7 +13,7 @@ ghost use Rattle.meaning.specs.Sheet.{onSheet, judged};
 ghost use Rattle.meaning.specs.Formats.{readTables, readInstance};
 ghost use Rattle.schema.specs.Decoded.{Near, schemaOf};
 ghost use Rattle.schema.specs.Judged.{Sound};
-ghost use Rattle.instance.specs.Decoded.{firstOf, countsIn, rowsOf, Fields, Stored, Columns, ColumnsTaken, Room, Says};
+ghost use Rattle.instance.specs.Decoded.{firstOf, countsIn, rowsOf, Fields, Stored, Columns, ColumnsTaken, RoomFor, Says};
 
 // A number of 32 bits as an index.
 pub fn wide(x: u32) -> usize
@@ -129,7 +129,7 @@ fn decode_tables(
     links: &mut [u32],
     values: &mut [u32],
 ) -> Instance
-    requires { ⌜ Sound schema × Room (now links) (now values) × (10 * schema .graph .nodes ≤ 8 * length (now s)) × (sumOf (firstOf (schema .graph .nodes) counts) ≤ 512) ⌝ }
+    requires { ⌜ Sound schema × RoomFor schema (now links) (now values) × (10 * schema .graph .nodes ≤ 8 * length (now s)) × (sumOf (firstOf (schema .graph .nodes) counts) ≤ 512) ⌝ }
     ensures { λ r. ⌜ Says schema r (now (links .exit)) (now (values .exit)) (judged (readTables (schemaOf schema) (firstOf (schema .graph .nodes) counts) (now (s .entry)) (10 * schema .graph .nodes))) ⌝ }
 {
     let graph = schema.graph;
@@ -170,7 +170,7 @@ fn decode_tables(
 
 // What an instance sheet says, or the number with which it is sent back before any test of its sense.
 pub fn decode_instance(schema: Schema, s: &[u8], links: &mut [u32], values: &mut [u32]) -> Instance
-    requires { ⌜ Sound schema × Room (now links) (now values) ⌝ }
+    requires { ⌜ Sound schema × RoomFor schema (now links) (now values) ⌝ }
     ensures { λ r. ⌜ Says schema r (now (links .exit)) (now (values .exit)) (onSheet (readInstance (schemaOf schema)) (now (s .entry))) ⌝ }
 {
     let graph = schema.graph;

@@ -9,7 +9,7 @@ ghost use lib.ListN.{length};
 ghost use Rattle.bits.specs.Put.{putAll};
 ghost use Rattle.meaning.specs.Formats.{fieldsOf, instanceSheet};
 ghost use Rattle.schema.specs.Judged.{Sound};
-ghost use Rattle.instance.specs.Decoded.{rowsOf, columnOf, tablesOf, Fields, Columns, Limits, Room};
+ghost use Rattle.instance.specs.Decoded.{rowsOf, columnOf, tablesOf, Fields, Columns, Limits, RoomFor};
 ghost use Rattle.instance.specs.Written.{Written, rowsIn, ColumnsFit, ColumnsWritten, sheetBytes};
 
 // Writes n numbers from base on as fields of one width.
@@ -87,7 +87,7 @@ pub fn write_instance(
     links: &[u32],
     values: &[u32],
 ) -> usize
-    requires { ⌜ Sound schema × Limits schema instance × Room (now links) (now values) × (sheetBytes schema instance ≤ length (now tray)) ⌝ }
+    requires { ⌜ Sound schema × Limits schema instance × RoomFor schema (now links) (now values) × (sheetBytes schema instance ≤ length (now tray)) ⌝ }
     ensures { λ r. ⌜ Written (instanceSheet (tablesOf schema instance (now (links .entry)) (now (values .entry)))) (now (tray .entry)) r (now (tray .exit)) ⌝ }
 {
     let n = sheet_length(schema, instance);

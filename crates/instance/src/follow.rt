@@ -6,7 +6,7 @@ use schema::Schema;
 ghost use mathlib.Core.Path.{_≡_};
 ghost use mathlib.Core.Bool.{true};
 ghost use mathlib.Core.List.{[]};
-ghost use Prim.Native.Nat.{_≤_};
+ghost use Prim.Native.Nat.{_*_, _≤_};
 ghost use lib.ListN.{length};
 ghost use Rattle.theory.specs.Instance as theory;
 ghost use Rattle.meaning.specs.Judge.{linksInRange, obeysEquations};
@@ -56,7 +56,7 @@ fn paths_agree(links: &[u32], a: Path, b: Path, rows: usize) -> bool
 
 // Refusal 11 (bent row).
 pub fn obeys_equations(schema: Schema, instance: Instance, links: &[u32]) -> bool
-    requires { ⌜ Sound schema × Limits schema instance × (length (now links) ≡ 16384) × (linksInRange (schemaOf schema) (tablesOf schema instance (now links) []) ≡ true) ⌝ }
+    requires { ⌜ Sound schema × Limits schema instance × (512 * schema .graph .edges ≤ length (now links)) × (linksInRange (schemaOf schema) (tablesOf schema instance (now links) []) ≡ true) ⌝ }
     ensures { λ r. ⌜ r ≡ obeysEquations (schemaOf schema) (tablesOf schema instance (now (links .entry)) []) ⌝ }
 {
     let n = schema.equations;

@@ -12,7 +12,7 @@ ghost use mathlib.Core.Path.{_≡_};
 ghost use Rattle.meaning.specs.Judge.{judgeInstance};
 ghost use Rattle.schema.specs.Decoded.{schemaOf};
 ghost use Rattle.schema.specs.Judged.{Sound};
-ghost use Rattle.instance.specs.Decoded.{emptyInstance, tablesOf, Limits, Room};
+ghost use Rattle.instance.specs.Decoded.{emptyInstance, hasFewColumns, tablesOf, Limits, RoomFor};
 ghost use Rattle.instance.specs.Tested.{testInstance, Tested};
 
 // What an instance sheet says, but for links and values, which stand in lent arrays: the link of row r along edge e at 512 * e + r,
@@ -25,11 +25,16 @@ pub struct Instance {
 impl Instance {
     pub const ROWS: usize = 512;
 
-    pub const BYTES: usize = 51220;
-
     pub const LINKS: usize = 16384;
 
     pub const VALUES: usize = 8192;
+
+    // A schema with at most so many edges and at most so many attributes has few columns: shorter working arrays do for its instances.
+    pub const FEW_COLUMNS: usize = 4;
+
+    pub const FEW_LINKS: usize = 2048;
+
+    pub const FEW_VALUES: usize = 2048;
 
     // A sheet sent back with a number.
     pub fn faulty(number: u8) -> Instance
@@ -43,9 +48,19 @@ impl Instance {
     }
 }
 
+// Whether the shorter working arrays do for the instances of a schema.
+pub fn has_few_columns(schema: Schema) -> bool
+    ensures { λ r. ⌜ r ≡ hasFewColumns schema ⌝ }
+{
+    if schema.graph.edges <= Instance::FEW_COLUMNS {
+        return schema.attributes <= Instance::FEW_COLUMNS;
+    }
+    false
+}
+
 // The tests from 9 up, of a sheet that was read.
 fn tested(schema: Schema, instance: Instance, links: &[u32], values: &[u32]) -> Instance
-    requires { ⌜ Sound schema × Limits schema instance × Room (now links) (now values) × (instance .fault ≡ 0) ⌝ }
+    requires { ⌜ Sound schema × Limits schema instance × RoomFor schema (now links) (now values) × (instance .fault ≡ 0) ⌝ }
     ensures { λ r. ⌜ Tested schema r (now (links .entry)) (now (values .entry)) (testInstance (schemaOf schema) (tablesOf schema instance (now (links .entry)) (now (values .entry)))) ⌝ }
 {
     if range::links_in_range(schema, instance, links) {
@@ -63,7 +78,7 @@ fn tested(schema: Schema, instance: Instance, links: &[u32], values: &[u32]) -> 
 
 // An instance sheet of a schema judged: what it says, or the first number that applies to it.
 pub fn judge_instance(schema: Schema, s: &[u8], links: &mut [u32], values: &mut [u32]) -> Instance
-    requires { ⌜ Sound schema × Room (now links) (now values) ⌝ }
+    requires { ⌜ Sound schema × RoomFor schema (now links) (now values) ⌝ }
     ensures { λ r. ⌜ Tested schema r (now (links .exit)) (now (values .exit)) (judgeInstance (schemaOf schema) (now (s .entry))) ⌝ }
 {
     let instance = decode::decode_instance(schema, s, &mut *links, &mut *values);

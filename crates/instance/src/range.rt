@@ -93,7 +93,7 @@ fn columns_in_range(
 
 // Refusal 9 (dangling).
 pub fn links_in_range(schema: Schema, instance: Instance, links: &[u32]) -> bool
-    requires { ⌜ Sound schema × Limits schema instance × (length (now links) ≡ 16384) ⌝ }
+    requires { ⌜ Sound schema × Limits schema instance × (512 * schema .graph .edges ≤ length (now links)) ⌝ }
     ensures { λ r. ⌜ r ≡ linksInRange (schemaOf schema) (tablesOf schema instance (now (links .entry)) []) ⌝ }
 {
     let graph = schema.graph;
@@ -105,7 +105,7 @@ pub fn links_in_range(schema: Schema, instance: Instance, links: &[u32]) -> bool
 
 // Refusal 10 (off scale).
 pub fn values_in_range(schema: Schema, instance: Instance, values: &[u32], kinds: &[u32]) -> bool
-    requires { ⌜ Sound schema × Limits schema instance × (length (now values) ≡ 8192) ⌝ }
+    requires { ⌜ Sound schema × Limits schema instance × (512 * schema .attributes ≤ length (now values)) ⌝ }
     ensures { λ r. ⌜ r ≡ valuesInRange (now (kinds .entry)) (schemaOf schema) (tablesOf schema instance [] (now (values .entry))) ⌝ }
 {
     let node = schema.node;

@@ -14,7 +14,7 @@ use Rattle.schema.specs.Decoded.{schemaOf}
 use Rattle.schema.specs.Judged.{Sound}
 use Rattle.instance.specs.declared.Instance.{Instance}
 use Rattle.instance.specs.declared.tables.Table.{Table}
-use Rattle.instance.specs.Decoded.{firstOf, tablesOf, Limits, Room}
+use Rattle.instance.specs.Decoded.{firstOf, tablesOf, Limits, RoomFor}
 use Rattle.instance.specs.Tables.{noTable}
 
 -- the partners of an instance's rows, at the front of an array
@@ -93,7 +93,7 @@ pub record Comparable (t : Schema) (a : Instance) (links values : List ℕ) (b :
   pub sound : Sound t
   pub limits : Limits t a
   pub limits′ : Limits t b
-  pub room : Room links values
-  pub room′ : Room links′ values′
+  pub room : RoomFor t links values
+  pub room′ : RoomFor t links′ values′
   pub links-in : linksInRange (schemaOf t) (tablesOf t a links values) ≡ true
   pub long : 512 ≤ length list

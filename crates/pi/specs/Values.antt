@@ -40,7 +40,7 @@ pub record Readable (s t : Schema) (k : Components) (image run counts rows value
   pub target-few : t .attributes ≤ 16
   pub long : length counts ≡ 16
   pub run-long : length run ≡ 16
-  pub values-long : length values ≡ 8192
+  pub values-long : 512 * s .attributes ≤ length values
   pub attribute-in : (b : ℕ) → b < t .attributes → attributeOver s image b < s .attributes
   pub node-low : (a : ℕ) → a < s .attributes → homeOf s a < 16
   pub rows-few : (a : ℕ) → a < s .attributes → rowsOf (s .node) run a ≤ 512

@@ -1,6 +1,6 @@
 -- Sigma of decoded tables: its counts, and its links and values joined node by node.
 use Prim.Native.Nat.{ℕ, zero, suc, _+_, _*_, _/_, _%_, _≤_, _<_}
-use mathlib.Core.Path.{_≡_, refl, sym, ap, ap₂, _∙_}
+use mathlib.Core.Path.{_≡_, refl, sym, ap, ap₂, subst, _∙_}
 use mathlib.Core.Bool.{Bool, true, false}
 use mathlib.Core.List.{List, [], _∷_, _++_, map, append-nil}
 use native.Mathlib.Omega.{arith}
@@ -50,7 +50,7 @@ use Rattle.mapping.proofs.PathEdges.{edges-are}
 use Rattle.delta.proofs.Pulling.{tabulate-upto}
 use Rattle.sigma.specs.Joined.{JoinedColumns, overAttribute, valueOver}
 use Rattle.sigma.specs.Lifted.{liftRow, LiftLeads}
-use Rattle.sigma.specs.Pushed.{Counted, AllLead, Pushable, sigmaOf, Pushed}
+use Rattle.sigma.specs.Pushed.{Counted, AllLead, AllOver, Pushable, sigmaOf, Pushed}
 use Rattle.sigma.proofs.Joining.{before-more, before-skip, joined-room}
 
 -- ---- a joined list, node by node
@@ -177,7 +177,7 @@ module _ {s t : Schema} {sp tp : Paths} {f : Mapping} {run : Instance} {links va
           short = omega (arith, k, z, P .schemas .source .limits .nodes);
         }
 
-    module _ (long : length links ≡ 16384) where
+    module _ (long : 512 * s .graph .edges ≤ length links) where
       abbrev LedFrom : ℕ → Type 0
       LedFrom x = Led s (P .schemas .source) run links values (P .limits) long (P .links-in) c (p .edges) x
 
@@ -212,7 +212,7 @@ module _ {s t : Schema} {sp tp : Paths} {f : Mapping} {run : Instance} {links va
           (L .edges-is)
           ∙ ap (λ (y : ℕ). firstRow F I (end G p) + y) (led-from x h .same)
 
-  module _ (long : length links ≡ 16384) {lifts : List ℕ} (U : EdgeLifts s t sp f (16 * t .graph .edges) lifts) where
+  module _ (long : 512 * s .graph .edges ≤ length links) {lifts : List ℕ} (U : EdgeLifts s t sp f (16 * t .graph .edges) lifts) where
     pub all-lead : AllLead s t sp f run lifts links
     all-lead = record { each = λ e b. record { each = λ c l at. lift-leads U e b c l at long } }
 
@@ -236,16 +236,29 @@ module _ {s t : Schema} {sp tp : Paths} {f : Mapping} {run : Instance} {links va
           tabulate-upto (t .graph .edges) links-at
           ∙ ap (λ (n : ℕ). map (λ e. concatMap (λ c. linksAlong S F I c (lift S T F c e)) (fibre S F (source (T .graph) e))) (upto n)) (sym (edges-count (t .graph .edges) (t .graph .source) (t .graph .target)))
 
-  -- ---- values: the column at c over b
-  column-is : (b : ℕ) → b < t .attributes → (c : ℕ) → c < s .graph .nodes → getD (f .node) c 0 ≡ getD (t .node) b 0 → columnOf values (512 * overAttribute s f b c) (getD (run .counts) c 0) ≡ column I (attributeOver S F c b)
-  column-is b h c l at =
-      let a = attributeOver S F c b in
-      let g : attributeAt T b .node ≡ nodeImage F c = ap (λ (x : meaning.Attribute). x .node) (attribute-is t b h) ∙ sym at ∙ sym (node-at s f c l) in
-      let o = attributeOver-is valid evenness c l b (rw (attributes-count t) h) g in
-      let i : a < s .attributes = omega (arith, o .attribute-in, attributes-count s) in
-      let n : getD (s .node) a 0 ≡ c = sym (ap (λ (x : meaning.Attribute). x .node) (attribute-is s a i)) ∙ o .home-is in
-      ap₂ (λ (x y : ℕ). columnOf values (512 * x) (getD (run .counts) y 0)) (sym (attribute-over s f c b)) (sym n)
-      ∙ sym (tabulate-getD (s .attributes) (λ k. columnOf values (512 * k) (rowsOf (s .node) (run .counts) k)) [] a i)
+  -- ---- values: the attribute at c over b, and its column
+  module _ (b : ℕ) (h : b < t .attributes) (c : ℕ) (l : c < s .graph .nodes) (at : getD (f .node) c 0 ≡ getD (t .node) b 0) where
+    abbrev a : ℕ
+    a = attributeOver S F c b
+
+    record Over : Type 0 where
+      inside : a < s .attributes
+      home : getD (s .node) a 0 ≡ c
+
+    over : Over
+    over =
+        let g : attributeAt T b .node ≡ nodeImage F c = ap (λ (x : meaning.Attribute). x .node) (attribute-is t b h) ∙ sym at ∙ sym (node-at s f c l) in
+        let o = attributeOver-is valid evenness c l b (rw (attributes-count t) h) g in
+        let i : a < s .attributes = omega (arith, o .attribute-in, attributes-count s) in
+        record { inside = i; home = sym (ap (λ (x : meaning.Attribute). x .node) (attribute-is s a i)) ∙ o .home-is }
+
+    column-is : columnOf values (512 * overAttribute s f b c) (getD (run .counts) c 0) ≡ column I a
+    column-is =
+        ap₂ (λ (x y : ℕ). columnOf values (512 * x) (getD (run .counts) y 0)) (sym (attribute-over s f c b)) (sym (over .home))
+        ∙ sym (tabulate-getD (s .attributes) (λ k. columnOf values (512 * k) (rowsOf (s .node) (run .counts) k)) [] a (over .inside))
+
+  pub all-over : AllOver s t f
+  all-over = record { each = λ b h. record { each = λ c l at. subst (λ (n : ℕ). n < s .attributes) (attribute-over s f c b) (over b h c l at .inside) } }
 
   module _ {r : Instance} (C : Counted s t f run r) {l₀ copied : List ℕ} (W : JoinedColumns (f .node) (run .counts) (t .node) (s .graph .nodes) (t .attributes) (valueOver s f values) l₀ copied) where
     values-at : (b : ℕ) → b < t .attributes → columnOf copied (512 * b) (rowsOf (t .node) (r .counts) b) ≡ concatMap (λ c. column I (attributeOver S F c b)) (fibre S F (attributeAt T b .node))

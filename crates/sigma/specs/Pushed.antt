@@ -18,6 +18,7 @@ use Rattle.mapping.specs.Decoded.{mappingOf}
 use Rattle.mapping.specs.Judged.{Schemas, Sound}
 use Rattle.mapping.specs.Lifts.{joinedBefore}
 use Rattle.delta.specs.Stored.{Counts}
+use Rattle.sigma.specs.Joined.{AttributesOver}
 use Rattle.sigma.specs.Lifted.{LiftsLead}
 
 -- r has the counts of the joined lists
@@ -27,6 +28,10 @@ pub record Counted (s t : Schema) (f : Mapping) (run r : Instance) : Type 0 wher
 -- the lifts of each edge of T can be followed
 pub record AllLead (s t : Schema) (p : Paths) (f : Mapping) (run : Instance) (lifts links : List ℕ) : Type 0 where
   pub each : (e : ℕ) → e < t .graph .edges → LiftsLead p (f .node) (run .counts) lifts links (s .graph .nodes) e (getD (t .graph .source) e 0)
+
+-- each attribute of T has one over it at each node over its own
+pub record AllOver (s t : Schema) (f : Mapping) : Type 0 where
+  pub each : (b : ℕ) → b < t .attributes → AttributesOver s f b (getD (t .node) b 0)
 
 -- ---- tables
 

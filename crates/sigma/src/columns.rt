@@ -19,7 +19,7 @@ ghost use Rattle.instance.specs.Decoded.{Limits};
 ghost use Rattle.instance.specs.Followed.{linkIn};
 ghost use Rattle.mapping.specs.Decoded.{imageOf};
 ghost use Rattle.delta.specs.Stored.{Leads, Stored};
-ghost use Rattle.sigma.specs.Joined.{JoinedStored, valueOver};
+ghost use Rattle.sigma.specs.Joined.{JoinedStored, overAttribute, valueOver, AttributesOver};
 ghost use Rattle.sigma.specs.Lifted.{LiftLeads, LiftsLead, liftRow};
 
 // The column at node c over attribute b: its first rows, copied.
@@ -33,7 +33,7 @@ pub fn copy_over(
     out: &mut [u32],
     place: usize,
 )
-    requires { ⌜ (s .attributes ≤ 16) × (b < 16) × (c < 16) × (rows ≤ 512) × (length (now values) ≡ 8192) × (place + rows ≤ length (now out)) ⌝ }
+    requires { ⌜ (s .attributes ≤ 16) × (b < 16) × (c < 16) × (512 * overAttribute s f b c + rows ≤ length (now values)) × (place + rows ≤ length (now out)) ⌝ }
     ensures { λ _. ⌜ Stored (valueOver s f (now (values .entry)) b c) rows place (now (out .entry)) (now (out .exit)) ⌝ }
 {
     let home = s.node;
@@ -52,7 +52,7 @@ pub fn value_column(
     d: u8,
     out: &mut [u32],
 )
-    requires { ⌜ (s .graph .nodes ≤ 16) × (s .attributes ≤ 16) × Limits s run × (b < 16) × (length (now values) ≡ 8192) × (512 * b + 512 ≤ length (now out)) ⌝ }
+    requires { ⌜ (s .graph .nodes ≤ 16) × (s .attributes ≤ 16) × Limits s run × (b < 16) × (512 * s .attributes ≤ length (now values)) × AttributesOver s f b d × (512 * b + 512 ≤ length (now out)) ⌝ }
     ensures { λ _. ⌜ JoinedStored (f .node) (run .counts) d (s .graph .nodes) (valueOver s f (now (values .entry)) b) (512 * b) (now (out .entry)) (now (out .exit)) ⌝ }
 {
     let n = s.graph.nodes;

@@ -13,10 +13,10 @@ use schema::Schema;
 ghost use mathlib.Core.Path.{_≡_};
 ghost use Prim.Native.Nat.{_+_, _*_, _≤_};
 ghost use lib.ListN.{length, getD};
-ghost use Rattle.instance.specs.Decoded.{Limits, Room};
+ghost use Rattle.instance.specs.Decoded.{Limits, RoomFor};
 ghost use Rattle.sigma.specs.Joined.{JoinedColumns, valueOver};
 ghost use Rattle.sigma.specs.Lifted.{liftRow};
-ghost use Rattle.sigma.specs.Pushed.{Counted, AllLead, Pushable, Pushed};
+ghost use Rattle.sigma.specs.Pushed.{Counted, AllLead, AllOver, Pushable, Pushed};
 
 // The counts of Sigma's tables.
 pub fn sigma_counts(s: Schema, t: Schema, f: Mapping, run: Instance) -> Instance
@@ -46,7 +46,7 @@ pub fn sigma_values(
     values: &[u32],
     out: &mut [u32],
 )
-    requires { ⌜ (s .graph .nodes ≤ 16) × (s .attributes ≤ 16) × (t .attributes ≤ 16) × Limits s run × (length (now values) ≡ 8192) × (length (now out) ≡ 8192) ⌝ }
+    requires { ⌜ (s .graph .nodes ≤ 16) × (s .attributes ≤ 16) × (t .attributes ≤ 16) × Limits s run × (512 * s .attributes ≤ length (now values)) × AllOver s t f × (512 * t .attributes ≤ length (now out)) ⌝ }
     ensures { λ _. ⌜ JoinedColumns (f .node) (run .counts) (t .node) (s .graph .nodes) (t .attributes) (valueOver s f (now (values .entry))) (now (out .entry)) (now (out .exit)) ⌝ }
 {
     let n = t.attributes;
@@ -69,7 +69,7 @@ pub fn sigma_links(
     links: &[u32],
     out: &mut [u32],
 )
-    requires { ⌜ (s .graph .nodes ≤ 16) × (t .graph .edges ≤ 32) × Limits s run × (length (now lifts) ≡ 512) × AllLead s t sp f run (now lifts) (now links) × (length (now out) ≡ 16384) ⌝ }
+    requires { ⌜ (s .graph .nodes ≤ 16) × (t .graph .edges ≤ 32) × Limits s run × (length (now lifts) ≡ 512) × AllLead s t sp f run (now lifts) (now links) × (512 * t .graph .edges ≤ length (now out)) ⌝ }
     ensures { λ _. ⌜ JoinedColumns (f .node) (run .counts) (t .graph .source) (s .graph .nodes) (t .graph .edges) (λ e c. liftRow sp (f .node) (run .counts) (now (links .entry)) (getD (now (lifts .entry)) (16 * e + c) 0)) (now (out .entry)) (now (out .exit)) ⌝ }
 {
     let graph = t.graph;
@@ -95,7 +95,7 @@ pub fn sigma(
     followed: &mut [u32],
     copied: &mut [u32],
 ) -> Instance
-    requires { ⌜ Pushable s t sp tp f run (now links) (now values) × Room (now links) (now values) × Room (now followed) (now copied) ⌝ }
+    requires { ⌜ Pushable s t sp tp f run (now links) (now values) × RoomFor s (now links) (now values) × RoomFor t (now followed) (now copied) ⌝ }
     ensures { λ r. ⌜ Pushed s t f run (now (links .entry)) (now (values .entry)) r (now (followed .exit)) (now (copied .exit)) ⌝ }
 {
     let lifts = edge_lifts(s, t, sp, tp, f);

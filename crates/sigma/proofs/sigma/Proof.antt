@@ -1,6 +1,6 @@
 -- `sigma::sigma` meets its contract.
 use mathlib.Core.Path.{sym}
-use Rattle.sigma.proofs.Pushing.{all-lead, counts-are, links-are, values-are, pushed}
+use Rattle.sigma.proofs.Pushing.{all-lead, all-over, counts-are, links-are, values-are, pushed}
 use borrow.Author.Needs.{needs}
 use Rattle.sigma.proofs.sigma.Statement.{statement}
 use Rattle.sigma.proofs.sigma.Tie as tie
@@ -24,7 +24,7 @@ sigma-values-requires : tie.Need-sigma-values-requires
 sigma-values-requires c κs =
     let z = c .before .before .before .before .before .before .before .before .before .before .before .before in
     let P = z .pre .0 in
-    (P .schemas .source .limits .nodes, P .schemas .source .limits .attributes, P .schemas .target .limits .attributes, P .limits, z .pre .1 .for-values, z .pre .2 .for-values)
+    (P .schemas .source .limits .nodes, P .schemas .source .limits .attributes, P .schemas .target .limits .attributes, P .limits, z .pre .1 .for-values, all-over P, z .pre .2 .for-values)
 
 same-length : tie.Need-same-length
 same-length c = search needs

@@ -22,7 +22,7 @@ value-column-requires : tie.Need-value-column-requires Inv-loop μ-loop
 value-column-requires c κs =
     let l = c .before .before .loop-test .taken in
     let h = c .before .before .before .before .before .before .pre .2 in
-    (c .before .before .before .before .before .before .pre .0, c .before .before .before .before .before .before .pre .1, c .before .before .before .before .before .before .pre .3, omega (arith, l, h), c .before .before .before .before .before .before .pre .4, omega (arith, l, h, c .before .before .before .loop .inv .long, c .before .before .before .before .before .before .pre .5))
+    (c .before .before .before .before .before .before .pre .0, c .before .before .before .before .before .before .pre .1, c .before .before .before .before .before .before .pre .3, omega (arith, l, h), c .before .before .before .before .before .before .pre .4, c .before .before .before .before .before .before .pre .5 .each (c .before .before .before .loop .b) l, omega (arith, l, h, c .before .before .before .loop .inv .long, c .before .before .before .before .before .before .pre .6))
 
 add-b : tie.Need-add-b Inv-loop μ-loop
 add-b c = omega (arith, c .before .before .before .before .before .before .before .before .before .pre .2, c .before .before .before .before .before .loop-test .taken)

@@ -36,7 +36,7 @@ mul-copy-column : tie.Need-mul-copy-column
 mul-copy-column c = omega (arith, low c)
 
 copy-column-requires : tie.Need-copy-column-requires
-copy-column-requires c κs = let p = c .before .before .before .before .before .before .before .before .pre in (omega (arith, low (c .before), p .3, p .4), p .5)
+copy-column-requires c κs = let p = c .before .before .before .before .before .before .before .before .pre in (omega (arith, c .before .first-over .ensures, p .3), p .4)
 
 same-length : tie.Need-same-length
 same-length c = search needs

@@ -41,7 +41,7 @@ copy-over-requires : tie.Need-copy-over-requires Inv-loop μ-loop
 copy-over-requires c κs =
     let w : joinedBefore (c .before .before .before .before .before .before .before .before .before .args .t2 .node) (c .before .before .before .before .before .before .before .before .before .args .t3 .counts) (c .before .before .before .before .before .before .before .before .before .args .d) (c .before .before .before .before .before .before .loop .c) + getD (c .before .before .before .before .before .before .before .before .before .args .t3 .counts) (c .before .before .before .before .before .before .loop .c) 0 ≤ 512 = joined-room (c .before .before .before .before .before .before .before .before .before .args .t2 .node) (c .before .before .before .before .before .before .before .before .before .args .t3 .counts) (c .before .before .before .before .before .before .before .before .before .args .d) (c .before .before .before .before .before .before .loop .c) (c .before .before .before .before .before .before .before .before .before .args .s .graph .nodes) (c .before .before .before .before .before .before .before .before .before .pre .2 .rows) (c .before .before .before .before .before .loop-test .taken) (c .before .before .before .if1 .taken) in
     let r : c .before .wide .result ≡ getD (c .before .before .before .before .before .before .before .before .before .args .t3 .counts) (c .before .before .before .before .before .before .loop .c) 0 = c .before .wide .ensures in
-    (c .before .before .before .before .before .before .before .before .before .pre .1, c .before .before .before .before .before .before .before .before .before .pre .3, omega (arith, c .before .before .before .before .before .before .before .before .before .pre .0, c .before .before .before .before .before .loop-test .taken), omega (arith, r, w), c .before .before .before .before .before .before .before .before .before .pre .4, omega (arith, r, w, c .before .before .before .before .before .before .before .before .before .pre .5, c .before .before .before .before .before .before .loop .inv .1, c .before .before .before .before .before .before .loop .inv .2 .long))
+    (c .before .before .before .before .before .before .before .before .before .pre .1, c .before .before .before .before .before .before .before .before .before .pre .3, omega (arith, c .before .before .before .before .before .before .before .before .before .pre .0, c .before .before .before .before .before .loop-test .taken), omega (arith, r, w, c .before .before .before .before .before .before .before .before .before .pre .4, c .before .before .before .before .before .before .before .before .before .pre .5 .each (c .before .before .before .before .before .before .loop .c) (c .before .before .before .before .before .loop-test .taken) (c .before .before .before .if1 .taken)), omega (arith, r, w, c .before .before .before .before .before .before .before .before .before .pre .6, c .before .before .before .before .before .before .loop .inv .1, c .before .before .before .before .before .before .loop .inv .2 .long))
 
 add-place : tie.Need-add-place Inv-loop μ-loop
 add-place c =
