@@ -1,15 +1,15 @@
 -- Laws of packing: what is packed is read back; a sheet with these fields and this end is the packed sheet; writing into cleared bytes packs.
 use mathlib.Core.Path.{_≡_, refl, sym, ap, ap₂, _∙_}
 use mathlib.Core.Bool.{true}
-use mathlib.Core.List.{List, [], _∷_, _++_, zip, zipWith}
+use mathlib.Core.List.{List, [], _∷_, _++_}
 use Prim.Native.Nat.{ℕ, zero, suc, _+_, _-_, _*_, _/_, _%_, _^_, _<_, _≤_}
 use native.Mathlib.Nat.{mod-eq-of-lt, zero-add, add-zero, add-assoc, zero-div, not-suc-le-zero}
 use native.Mathlib.Decide.{decLt}
 use native.Mathlib.Omega.{arith}
 use lib.ListN.{length, getD, replicate, length-append, length-replicate, List·getD-append, List·getD-eq-default}
 use lib.Seq.{getD-append-add}
-use Rattle.bits.specs.Field.{Bytes, bit, field, tailOk}
-use Rattle.bits.specs.Pack.{digits, bitsOf, totalWidth, bytesFor, pack, widths, values, Fit, readAll}
+use Rattle.bits.specs.Field.{Bytes, bit, field, bytesFor, tailOk}
+use Rattle.bits.specs.Pack.{digits, bitsOf, totalWidth, pack, widths, values, Fit, readAll}
 use Rattle.bits.specs.Put.{put, putAll}
 use Rattle.bits.proofs.Numbers.{digit}
 use Rattle.bits.proofs.Digits.{bitsOf-bits, length-digits, length-bitsOf, bitsOf-append, digits-at, length-gather, gather-bytes, gather-bit}
@@ -77,7 +77,7 @@ pub length-pack : (fs : List (ℕ × ℕ)) → length (pack fs) ≡ bytesFor (to
 unfolding pack
 length-pack fs = length-gather (bytesFor (totalWidth fs)) (bitsOf fs)
 
-pub pack-bytes : (fs : List (ℕ × ℕ)) → Bytes (pack fs)
+pack-bytes : (fs : List (ℕ × ℕ)) → Bytes (pack fs)
 unfolding pack
 pack-bytes fs = gather-bytes (bytesFor (totalWidth fs)) (bitsOf fs) (bitsOf-bits fs)
 
@@ -115,27 +115,6 @@ holds-pack s fs b t h =
 -- a sheet with these fields, that ends after them, is the packed sheet
 pub pack-unique : (s : List ℕ) (fs : List (ℕ × ℕ)) → Bytes s → tailOk s (totalWidth fs) ≡ true → readAll s 0 (widths fs) ≡ values fs → pack fs ≡ s
 pack-unique s fs b t e = holds-pack s fs b t (holds-readAll s 0 fs e)
-
-widths-read : (s : List ℕ) (p : ℕ) (ws : List ℕ) → widths (zip ws (readAll s p ws)) ≡ ws
-unfolding widths readAll zip zipWith
-widths-read s p [] = refl
-widths-read s p (w ∷ ws) = ap (λ (l : List ℕ). w ∷ l) (widths-read s (p + w) ws)
-
-values-read : (s : List ℕ) (p : ℕ) (ws : List ℕ) → values (zip ws (readAll s p ws)) ≡ readAll s p ws
-unfolding values readAll zip zipWith
-values-read s p [] = refl
-values-read s p (w ∷ ws) = ap (λ (l : List ℕ). field s p w ∷ l) (values-read s (p + w) ws)
-
--- ---- fields in two parts
--- fields that are read one after the other are read together
-pub readAll-append : (s : List ℕ) (p : ℕ) (fs gs : List (ℕ × ℕ)) → readAll s p (widths fs) ≡ values fs → readAll s (p + totalWidth fs) (widths gs) ≡ values gs
-    → readAll s p (widths (fs ++ gs)) ≡ values (fs ++ gs)
-unfolding readAll widths values totalWidth
-readAll-append s p [] gs e h = rw add-zero at h
-readAll-append s p (f ∷ fs) gs e h =
-    let x : field s p (f .0) ≡ f .1 = cc in
-    let xs : readAll s (p + f .0) (widths fs) ≡ values fs = cc in
-    ap₂ (λ (x : ℕ) (r : List ℕ). x ∷ r) x (readAll-append s (p + f .0) fs gs xs (rw (add-assoc p (f .0) (totalWidth fs)) h))
 
 pub totalWidth-append : (fs gs : List (ℕ × ℕ)) → totalWidth (fs ++ gs) ≡ totalWidth fs + totalWidth gs
 unfolding totalWidth
