@@ -17,7 +17,7 @@ use Rattle.meaning.specs.Lists.{upto, any}
 use Rattle.meaning.specs.Schema.{Graph, Schema, target, leaving, hasPathOf, hasLoop, largest, heightOver, heightWithin, height}
 use Rattle.meaning.specs.Judge.{isWellFormed}
 use Rattle.meaning.specs.Views.{schemaOf}
-use Rattle.meaning.proofs.Heights.{height-le, go-height}
+use Rattle.meaning.proofs.Heights.{height-le, hasPathOf-height}
 use Rattle.meaning.proofs.Lists.{no-bool, test-false, map-same, any-in, any-of, in-upto, of-upto}
 use Rattle.agreement.proofs.Paths.{schema-is, leaving-iff, hasLoop-iff}
 
@@ -154,7 +154,7 @@ module _ (G : Graph) where
     height-below : (n : ℕ) → n < G .nodes → height G n < G .nodes
     height-below n l =
         let f : hasPathOf G (G .nodes) n ≡ false = test-false (hasPathOf G (G .nodes) n) (λ e. no-bool (sym (any-in (hasPathOf G (G .nodes)) (upto (G .nodes)) (in-upto (G .nodes) n l) e) ∙ acyclic)) in
-        let q = eqb-false (height G n) (G .nodes) (sym (go-height G (G .nodes) n) ∙ f) in
+        let q = eqb-false (height G n) (G .nodes) (sym (hasPathOf-height G (G .nodes) n) ∙ f) in
         let k = height-le G (G .nodes) n in
         omega arith
 
