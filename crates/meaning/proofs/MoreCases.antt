@@ -45,6 +45,14 @@ fiveEdges = 0x10 ∷ 0xA0 ∷ 0x00 ∷ 0x04 ∷ 0x04 ∷ 0x04 ∷ 0x04 ∷ 0x04 
 abbrev pub equalRows : List ℕ
 equalRows = 0x00 ∷ 0x80 ∷ 0x10 ∷ 0x04 ∷ 0x00 ∷ 0x00 ∷ 0x00 ∷ 0x00 ∷ 0x00 ∷ 0x01 ∷ 0x5E ∷ 0x00 ∷ 0x00 ∷ 0x01 ∷ 0x5E ∷ 0x00 ∷ 0x00 ∷ 0x01 ∷ 0x5E ∷ 0x00 ∷ []
 
+-- one node with a station
+abbrev pub station : List ℕ
+station = 0x08 ∷ 0x01 ∷ 0x00 ∷ 0x04 ∷ []
+
+-- one row, with the largest value
+abbrev pub largestValue : List ℕ
+largestValue = 0x00 ∷ 0x7F ∷ 0xFF ∷ 0xFF ∷ 0xFF ∷ 0xC0 ∷ []
+
 -- ---- the table
 
 pub record Example : Type 0 where
@@ -79,6 +87,8 @@ moreCases =
     example "the base example printed" (prints (push ((0 ∷ 7 ∷ vendor) ++ (0 ∷ 5 ∷ operator) ++ (0 ∷ 5 ∷ vendorToOperator) ++ (0 ∷ 20 ∷ run))))
     (prints (codes "tables 2 rows 5\n0 0 1 700\n0 1 0 300\n0 2 1 705\n1 0\n1 1\n")) ∷
     example "no input" (prints (push [])) (prints (codes "refused 1 1\n")) ∷
+    example "a length of 256 and 7 bytes" (prints (push (1 ∷ 0 ∷ vendor))) (prints (codes "refused 1 2\n")) ∷
+    example "ten digits" (prints (push ((0 ∷ 4 ∷ station) ++ (0 ∷ 4 ∷ station) ++ (0 ∷ 1 ∷ 0x00 ∷ []) ++ (0 ∷ 6 ∷ largestValue)))) (prints (codes "tables 1 rows 1\n0 0 4294967295\n")) ∷
     example "case 3's pushed matching turned" (told bytes (pushedToRaw vendor operator vendorToOperator run book pushedList)) (accepted (bytes rawList)) ∷
     example "and turned back" (told bytes (rawToPushed vendor operator vendorToOperator run book rawList)) (accepted (bytes pushedList)) ∷
     example "equal raw rows are kept" (told countsOf (sigmaTables vendor operator vendorToOperator equalRows)) (accepted (counts (3 ∷ 1 ∷ []))) ∷

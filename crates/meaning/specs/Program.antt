@@ -50,7 +50,7 @@ abbrev pub digitsWithin : ℕ → ℕ → List ℕ
 digitsWithin zero n = digit (n % 10) ∷ []
 digitsWithin (suc fuel) n = elim (ltb n 10) [ true ↦ digit n ∷ [] | false ↦ digitsWithin fuel (n / 10) ++ (digit (n % 10) ∷ []) ]
 
--- a number below 2 ^ 32 has at most 10
+-- a value is below 2 ^ 32, and has at most 10 digits
 abbrev pub decimal : ℕ → List ℕ
 decimal n = digitsWithin 9 n
 
@@ -78,6 +78,7 @@ abbrev pub shown : Outcome Migrated → List ℕ
 shown (refused n place) = line (codes "refused" ∷ decimal n ∷ decimal place ∷ [])
 shown (accepted m) = printed m
 
+-- of the sheets S and T, and the input behind them
 abbrev pub pushRest : List ℕ → List ℕ → List ℕ → List ℕ
 pushRest s t input = shown (sigmaTables s t (firstSheet input) (firstSheet (laterSheets input)))
 
