@@ -7,7 +7,7 @@ use native.Mathlib.Omega.{arith}
 use native.Mathlib.Nat.{mul-suc, mul-add, le-trans, le-of-eq}
 use lib.ListN.{length, getD, drop, length-append}
 use lib.Dec.{eqb}
-use Rattle.meaning.specs.Lists.{range, upto, concatMap, sumOf}
+use Rattle.meaning.specs.Lists.{range, concatMap, sumOf}
 use Rattle.meaning.specs.Schema.{Schema, source, attributeAt}
 use Rattle.meaning.specs.Formats.{Instance, maxNodes, maxEdges, maxAttributes, maxRows}
 use Rattle.meaning.specs.Views.{count, rows, link, value}
