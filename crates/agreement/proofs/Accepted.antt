@@ -27,16 +27,16 @@ module _ {A B : Type 0} where
   bind-accepted (accepted a) k e = (a, refl, e)
 
   -- a judged sheet, and what comes after it
-  pub sheet-accepted : (place : ℕ) (j : Judged A) (k : A → Outcome B) {b : B} → (at place j >>= k) ≡ accepted b → (a : A) × (j ≡ sound a) × (k a ≡ accepted b)
+  sheet-accepted : (place : ℕ) (j : Judged A) (k : A → Outcome B) {b : B} → (at place j >>= k) ≡ accepted b → (a : A) × (j ≡ sound a) × (k a ≡ accepted b)
   sheet-accepted place (faulty n) k e = absurd (refused-not-accepted e)
   sheet-accepted place (sound a) k e = (a, refl, e)
 
 -- a test passed, and what comes after it
-pub ensure-accepted : {B : Type 0} (t : Bool) (n : ℕ) (k : Unit {0} → Outcome B) {b : B} → (ensure t n >>= k) ≡ accepted b → (t ≡ true) × (k tt ≡ accepted b)
+ensure-accepted : {B : Type 0} (t : Bool) (n : ℕ) (k : Unit {0} → Outcome B) {b : B} → (ensure t n >>= k) ≡ accepted b → (t ≡ true) × (k tt ≡ accepted b)
 ensure-accepted true n k e = (refl, e)
 ensure-accepted false n k e = absurd (refused-not-accepted e)
 
-pub fits-accepted : {B : Type 0} (J : Instance) (k : Instance → Outcome B) {b : B} → (ensureFits J >>= k) ≡ accepted b → (sumOf (J .counts) ≤ maxRows) × (k J ≡ accepted b)
+fits-accepted : {B : Type 0} (J : Instance) (k : Instance → Outcome B) {b : B} → (ensureFits J >>= k) ≡ accepted b → (sumOf (J .counts) ≤ maxRows) × (k J ≡ accepted b)
 fits-accepted J k {b} e = go (leb (sumOf (J .counts)) maxRows) refl e
   where
     go : (t : Bool) → leb (sumOf (J .counts)) maxRows ≡ t → ((ensure t 15 >>= λ _. accepted J) >>= k) ≡ accepted b → (sumOf (J .counts) ≤ maxRows) × (k J ≡ accepted b)
@@ -50,14 +50,14 @@ pub record MigrationSound (s t f : List ℕ) (m : Migration) : Type 0 where
   pub F-sound : judgeMapping (m .S) (m .T) f ≡ sound (m .F)
 
 module _ (s t f : List ℕ) where
-  pub migration-accepted : {m : Migration} → migration s t f ≡ accepted m → MigrationSound s t f m
+  migration-accepted : {m : Migration} → migration s t f ≡ accepted m → MigrationSound s t f m
   migration-accepted {m} e =
       let a = sheet-accepted 1 (judgeSchema s) _ e in
       let b = sheet-accepted 2 (judgeSchema t) _ (a .2) in
       let c = sheet-accepted 3 (judgeMapping (a .0) (b .0) f) _ (b .2) in
       subst (MigrationSound s t f) (accepted-same (c .2)) (record { S-sound = a .1; T-sound = b .1; F-sound = c .1 })
 
-  pub migration-accepts : {m : Migration} → MigrationSound s t f m → migration s t f ≡ accepted m
+  migration-accepts : {m : Migration} → MigrationSound s t f m → migration s t f ≡ accepted m
   migration-accepts h = rw (h .S-sound, h .T-sound, h .F-sound)
 
 -- ---- the three migrations

@@ -40,7 +40,7 @@ module _ {S T : Schema} {F : Mapping} (v : ValidMapping S T F) (J : Instance) wh
     value = λ a h x r. ap (λ (l : List ℕ). getD l x 0) (delta-column S F J a h);
   }
 
-  pub delta-shaped : Shaped T J → Shaped S (delta S F J)
+  delta-shaped : Shaped T J → Shaped S (delta S F J)
   delta-shaped shaped = record {
     tables = map-upto-length (λ c. count J (nodeImage F c)) (S .graph .nodes);
     edges = map-upto-length (λ e. map (follow J (edgeImage F e)) (rows J (nodeImage F (source (S .graph) e)))) (length (S .graph .edges));
@@ -57,7 +57,7 @@ module _ {S T : Schema} {F : Mapping} (v : ValidMapping S T F) (J : Instance) wh
   }
 
   -- Delta is an instance of S: links and values in range, and all path equations
-  pub delta-instance : {Range : ℕ → ℕ → Type 0} → IsInstance Range (schemaOf T) (instanceOf J) → IsInstance Range (schemaOf S) (instanceOf (delta S F J))
+  delta-instance : {Range : ℕ → ℕ → Type 0} → IsInstance Range (schemaOf T) (instanceOf J) → IsInstance Range (schemaOf S) (instanceOf (delta S F J))
   delta-instance J-is = alike-is (delta-is (v .is) J-is) (alike-sym (v .is .S-is) delta-alike) (v .is .S-is)
 
   -- its rows, counted in the theory

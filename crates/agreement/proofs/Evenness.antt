@@ -57,21 +57,21 @@ length-one (x ∷ y ∷ l) e a b i j = absurd (omega arith)
 -- ---- one class
 
 module _ (S : Schema) where
-  oneClass-some : (l : List Path) → oneClass S l ≡ true → (p : Path) × List·Memᴰ p l
+  pub oneClass-some : (l : List Path) → oneClass S l ≡ true → (p : Path) × List·Memᴰ p l
   oneClass-some [] e = absurd (no-bool (sym e))
   oneClass-some (p ∷ l) e = (p, List·Memᴰ·head refl)
 
-  oneClass-equal : (l : List Path) → oneClass S l ≡ true → (p q : Path) → List·Memᴰ p l → List·Memᴰ q l → equal S p q ≡ true
-  oneClass-equal [] e p q i j = absurd (no-bool (sym e))
-  oneClass-equal (r ∷ l) e p q i j = eq-eqb (classOf S p) (classOf S q) (sym (go p (List·Memᴰ·cases-cons i)) ∙ go q (List·Memᴰ·cases-cons j))
+  pub oneClass-same : (l : List Path) → oneClass S l ≡ true → (p q : Path) → List·Memᴰ p l → List·Memᴰ q l → classOf S p ≡ classOf S q
+  oneClass-same [] e p q i j = absurd (List·Memᴰ·not-nil i)
+  oneClass-same (r ∷ l) e p q i j = sym (go p (List·Memᴰ·cases-cons i)) ∙ go q (List·Memᴰ·cases-cons j)
     where
       go : (p : Path) → (p ≡ r) ⊎ List·Memᴰ p l → classOf S r ≡ classOf S p
       go p (inl h) = ap (classOf S) (sym h)
       go p (inr m) = eqb-true (classOf S r) (classOf S p) (all-of (equal S r) l e m)
 
-  one-oneClass : (l : List Path) {p : Path} → List·Memᴰ p l → ((p q : Path) → List·Memᴰ p l → List·Memᴰ q l → equal S p q ≡ true) → oneClass S l ≡ true
-  one-oneClass [] m h = absurd (List·Memᴰ·not-nil m)
-  one-oneClass (r ∷ l) m h = all-in (equal S r) l (λ q j. h r q (List·Memᴰ·head refl) (List·Memᴰ·tail j))
+  pub same-oneClass : (l : List Path) {p : Path} → List·Memᴰ p l → ((p q : Path) → List·Memᴰ p l → List·Memᴰ q l → classOf S p ≡ classOf S q) → oneClass S l ≡ true
+  same-oneClass [] m h = absurd (List·Memᴰ·not-nil m)
+  same-oneClass (r ∷ l) m h = all-in (equal S r) l (λ q j. eq-eqb (classOf S r) (classOf S q) (h r q (List·Memᴰ·head refl) (List·Memᴰ·tail j)))
 
 -- ---- attributes
 
@@ -131,11 +131,12 @@ module _ {S T : Schema} {F : Mapping} (v : ValidMapping S T F) where
   lifts-oneClass : Even (mappingOf S T F) → (c : ℕ) → c < S .graph .nodes → (q : List ℕ) → IsPath (schemaOf T) (nodeImage F c) q → oneClass S (lifts S T F c (path (nodeImage F c) q)) ≡ true
   lifts-oneClass E c h q j =
       let u = E .lift c h q j in
-      one-oneClass S (lifts S T F c (path (nodeImage F c) q)) (lifts-each c h q j (path c (u .0)) .1 (refl, u .1)) (λ p r x y.
+      same-oneClass S (lifts S T F c (path (nodeImage F c) q)) (lifts-each c h q j (path c (u .0)) .1 (refl, u .1)) (λ p r x y.
       let o = lifts-each c h q j p .0 x in
       let w = lifts-each c h q j r .0 y in
       let e = equal-iff S (v .S-formed) c (p .edges) (r .edges) (o .1 .path) (w .1 .path) .1 (E .lift-one c h q (p .edges) (r .edges) (o .1) (w .1)) in
-      subst (λ (n : ℕ). equal S (path n (p .edges)) r ≡ true) (sym (o .0)) (subst (λ (n : ℕ). equal S (path c (p .edges)) (path n (r .edges)) ≡ true) (sym (w .0)) e))
+      let k = eqb-true (classOf S (path c (p .edges))) (classOf S (path c (r .edges))) e in
+      ap (λ (n : ℕ). classOf S (path n (p .edges))) (o .0) ∙ k ∙ ap (λ (n : ℕ). classOf S (path n (r .edges))) (sym (w .0)))
 
   even-test : Even (mappingOf S T F) → even S T F ≡ true
   even-test E = all-upto (evenAt S T F) (S .graph .nodes) (λ c h. and-intro
@@ -171,8 +172,8 @@ module _ {S T : Schema} {F : Mapping} (v : ValidMapping S T F) where
       lift-one = λ c h q p r o w.
           let j = chain-path (v .is .T-is) (nodeImage F c) (o .image-is) (image-path (v .is) c p (o .path)) .0 in
           equal-iff S (v .S-formed) c p r (o .path) (w .path) .0
-          (oneClass-equal S (lifts S T F c (path (nodeImage F c) q)) (lifts-one c h q j) (path c p) (path c r)
-          (lifts-each c h q j (path c p) .1 (refl, o)) (lifts-each c h q j (path c r) .1 (refl, w)));
+          (eq-eqb (classOf S (path c p)) (classOf S (path c r)) (oneClass-same S (lifts S T F c (path (nodeImage F c) q)) (lifts-one c h q j) (path c p) (path c r)
+          (lifts-each c h q j (path c p) .1 (refl, o)) (lifts-each c h q j (path c r) .1 (refl, w))));
       attribute = λ c h b i g.
           let k = length-some (attributesOver S F c b) (attributes-one c h b i g) in
           (k .0, attributesOver-each S T F c b (k .0) .0 (k .1));

@@ -1,7 +1,7 @@
 -- Lists given number by number, and lists joined as Sigma joins tables: for all nodes with one image, ascending. A row's place there is the theory's.
 use Prim.Native.Nat.{ℕ, zero, suc, _+_, _<_}
 use mathlib.Core.Path.{_≡_, refl, sym, ap, ap₂, _∙_}
-use mathlib.Core.List.{List, [], _∷_, _++_, map, append-assoc, append-nil}
+use mathlib.Core.List.{List, [], _∷_, _++_, map, append-nil}
 use mathlib.Core.Logic.{ite, if-pos}
 use native.Mathlib.Omega.{arith}
 use native.Mathlib.Decide.{ℕ-discrete}
@@ -19,6 +19,7 @@ use Rattle.meaning.specs.Formats.{Mapping, Instance}
 use Rattle.meaning.specs.Views.{nodeImage, mappingOf, count, rows, instanceOf}
 use Rattle.meaning.specs.Sigma.{fibreBelow, rowsIn, firstRow}
 use Rattle.meaning.proofs.Lists.{upto-length, upto-getD, getD-map}
+use Rattle.meaning.proofs.PathLevels.{concatMap-append}
 
 -- ---- the list of f 0, f 1, .. f (n - 1)
 
@@ -43,7 +44,7 @@ module _ {A : Type 0} (f : ℕ → List A) (w : ℕ → ℕ) where
   join-length (suc n) h = length-append (join f n) (f n) ∙ ap₂ (λ (a b : ℕ). a + b) (join-length n (λ c l. h c (omega arith))) (h n (omega arith))
 
   -- row x of list c stands at its number
-  pub join-at : (d : A) (n : ℕ) → ((c : ℕ) → c < n → length (f c) ≡ w c) → (c x : ℕ) → c < n → x < w c → getD (join f n) (sum w c + x) d ≡ getD (f c) x d
+  join-at : (d : A) (n : ℕ) → ((c : ℕ) → c < n → length (f c) ≡ w c) → (c x : ℕ) → c < n → x < w c → getD (join f n) (sum w c + x) d ≡ getD (f c) x d
   join-at d zero h c x i l = absurd (not-suc-le-zero i)
   join-at d (suc n) h c x i l = elim (ℕ-discrete c n) [
     | yes e ↦
@@ -56,10 +57,6 @@ module _ {A : Type 0} (f : ℕ → List A) (w : ℕ → ℕ) where
   ]
 
 -- ---- the tables over one node
-
-concatMap-append : {A B : Type 0} (f : A → List B) (l m : List A) → concatMap f (l ++ m) ≡ concatMap f l ++ concatMap f m
-concatMap-append {B = B} f [] m = refl
-concatMap-append {B = B} f (x ∷ l) m = ap (λ (t : List B). f x ++ t) (concatMap-append f l m) ∙ sym (append-assoc (f x) (concatMap f l) (concatMap f m))
 
 -- what c gives to a list joined at d
 abbrev part : {A : Type 0} → Mapping → ℕ → (ℕ → List A) → ℕ → List A

@@ -1,3 +1,4 @@
+-- Meaning agrees with theory, from paths up to demand 3; `Statements` gathers what is shown.
 pub mod Paths
 pub mod Loops
 pub mod Steps

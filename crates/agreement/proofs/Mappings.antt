@@ -2,15 +2,14 @@
 use Prim.Native.Nat.{ℕ, _<_}
 use mathlib.Core.Path.{_≡_, sym, subst}
 use mathlib.Core.Bool.{true, _&&_}
-use mathlib.Core.List.{List, [], _∷_}
+use mathlib.Core.List.{List}
 use mathlib.Core.Logic.{_↔_}
 use lib.ListN.{length}
 use lib.Dec.{ltb, eqb}
 use borrow.Author.Tests.{ltb-true, lt-ltb, eqb-true, eq-eqb}
 use Rattle.theory.specs.Schema.{IsPath, Chain, endpoint}
 use Rattle.theory.specs.Mapping.{IsMapping, image}
-use Rattle.theory.proofs.Schema.{path-append}
-use Rattle.theory.proofs.Mapping.{image-path}
+use Rattle.theory.proofs.Mapping.{CarriesPaths, carried-path, image-path}
 use Rattle.meaning.specs.Lists.{upto, all}
 use Rattle.meaning.specs.Schema.{path, Equation, Schema, source, target, attributeAt, joins}
 use Rattle.meaning.specs.PathEquality.{equal}
@@ -19,58 +18,61 @@ use Rattle.meaning.specs.Views.{IsListed, listed, schemaOf, nodeImage, edgeImag
 use Rattle.meaning.specs.Sheet.{sound}
 use Rattle.meaning.specs.Judge.{judgeMapping, edgeImageFits, attributeImageFits, imagesFit, keepsEquations}
 use Rattle.meaning.proofs.Tabulate.{and-both}
-use Rattle.meaning.proofs.Lists.{and-intro, all-in, all-of, all-upto, upto-all}
+use Rattle.meaning.proofs.Lists.{and-intro, all-in, all-of, all-upto, upto-all, all-places, places-all}
 use Rattle.agreement.proofs.Paths.{WellFormed, schema-is, same-starts, path-iff}
 use Rattle.agreement.proofs.Classes.{equal-iff}
 use Rattle.meaning.proofs.Facts.{SchemaFacts, mapping-facts}
-use Rattle.meaning.proofs.Lists.{all-places, places-all}
 
-module _ (S T : Schema) (F : Mapping) (s : WellFormed S) (t : WellFormed T) (nodes : length (F .nodes) ≡ S .graph .nodes) where
-  -- a path that joins up, from a node
-  joins-path : (n : ℕ) (p : List ℕ) → n < T .graph .nodes → joins (T .graph) n p ≡ true → IsPath (schemaOf T) n p
-  joins-path n p h e = path-iff T (t .fits) n p .0 (and-intro (lt-ltb n (T .graph .nodes) h) e)
+-- ---- what test 7 gives
 
-  path-joins : (n : ℕ) (p : List ℕ) → IsPath (schemaOf T) n p → joins (T .graph) n p ≡ true
-  path-joins n p h = and-both (ltb n (T .graph .nodes)) (joins (T .graph) n p) (path-iff T (t .fits) n p .1 h) .1
+pub record Fits (S T : Schema) (F : Mapping) : Type 0 where
+  pub node-in : (c : ℕ) → c < S .graph .nodes → nodeImage F c < T .graph .nodes
+  pub edge-joins : (e : ℕ) → e < length (S .graph .edges) → joins (T .graph) (nodeImage F (source (S .graph) e)) (edgeImage F e) ≡ true
+  pub edge-end : (e : ℕ) → e < length (S .graph .edges) → endpoint (target (T .graph)) (nodeImage F (source (S .graph) e)) (edgeImage F e) ≡ nodeImage F (target (S .graph) e)
+  pub attribute-fits : (a : ℕ) → a < length (S .attributes) → attributeImageFits S T F a ≡ true
 
-  -- ---- what test 7 gives
-  record Fits : Type 0 where
-    node-in : (c : ℕ) → c < S .graph .nodes → nodeImage F c < T .graph .nodes
-    edge-fits : (e : ℕ) → e < length (S .graph .edges) → edgeImageFits S T F e ≡ true
-    attribute-fits : (a : ℕ) → a < length (S .attributes) → attributeImageFits S T F a ≡ true
+module _ (S T : Schema) (F : Mapping) where
+  edge-fits : (e : ℕ) → edgeImageFits S T F e ≡ true →
+      (joins (T .graph) (nodeImage F (source (S .graph) e)) (edgeImage F e) ≡ true) ×
+      (endpoint (target (T .graph)) (nodeImage F (source (S .graph) e)) (edgeImage F e) ≡ nodeImage F (target (S .graph) e))
+  edge-fits e h =
+      let n = nodeImage F (source (S .graph) e) in
+      let u = and-both (joins (T .graph) n (edgeImage F e)) (eqb (endpoint (target (T .graph)) n (edgeImage F e)) (nodeImage F (target (S .graph) e))) h in
+      (u .0, eqb-true (endpoint (target (T .graph)) n (edgeImage F e)) (nodeImage F (target (S .graph) e)) (u .1))
 
-  fits : imagesFit S T F ≡ true → Fits
-  fits h =
+  pub fits : length (F .nodes) ≡ S .graph .nodes → imagesFit S T F ≡ true → Fits S T F
+  fits nodes h =
       let n = all (λ d. ltb d (T .graph .nodes)) (F .nodes) in
       let e = all (edgeImageFits S T F) (upto (length (S .graph .edges))) in
       let a = all (attributeImageFits S T F) (upto (length (S .attributes))) in
       let u = and-both (n && e) a h in
       let v = and-both n e (u .0) in
+      let edge = upto-all (edgeImageFits S T F) (length (S .graph .edges)) (v .1) in
       record {
         node-in = λ c l. ltb-true (nodeImage F c) (T .graph .nodes) (all-places (λ d. ltb d (T .graph .nodes)) (F .nodes) 0 (v .0) c (rw nodes l));
-        edge-fits = upto-all (edgeImageFits S T F) (length (S .graph .edges)) (v .1);
+        edge-joins = λ e l. edge-fits e (edge e l) .0;
+        edge-end = λ e l. edge-fits e (edge e l) .1;
         attribute-fits = upto-all (attributeImageFits S T F) (length (S .attributes)) (u .1);
       }
 
-  module _ (f : Fits) where
-    edge-path : (e : ℕ) → e < length (S .graph .edges) → IsPath (schemaOf T) (nodeImage F (source (S .graph) e)) (edgeImage F e)
-    edge-path e l =
+module _ {S T : Schema} {F : Mapping} (s : WellFormed S) (t : WellFormed T) (f : Fits S T F) where
+  -- paths are carried to paths
+  pub carries : CarriesPaths (mappingOf S T F)
+  carries = record {
+    node-in = f .node-in;
+    edge-path = λ e l.
         let n = nodeImage F (source (S .graph) e) in
-        let u = and-both (joins (T .graph) n (edgeImage F e)) (eqb (endpoint (target (T .graph)) n (edgeImage F e)) (nodeImage F (target (S .graph) e))) (f .edge-fits e l) in
-        joins-path n (edgeImage F e) (f .node-in (source (S .graph) e) (schema-is S (s .fits) .src-in e l)) (u .0)
+        path-iff T (t .fits) n (edgeImage F e) .0 (and-intro (lt-ltb n (T .graph .nodes) (f .node-in (source (S .graph) e) (schema-is S (s .fits) .src-in e l))) (f .edge-joins e l));
+    edge-end = f .edge-end;
+  }
 
-    edge-end : (e : ℕ) → e < length (S .graph .edges) → endpoint (target (T .graph)) (nodeImage F (source (S .graph) e)) (edgeImage F e) ≡ nodeImage F (target (S .graph) e)
-    edge-end e l =
-        let n = nodeImage F (source (S .graph) e) in
-        let u = and-both (joins (T .graph) n (edgeImage F e)) (eqb (endpoint (target (T .graph)) n (edgeImage F e)) (nodeImage F (target (S .graph) e))) (f .edge-fits e l) in
-        eqb-true (endpoint (target (T .graph)) n (edgeImage F e)) (nodeImage F (target (S .graph) e)) (u .1)
+module _ (S T : Schema) (F : Mapping) (s : WellFormed S) (t : WellFormed T) (nodes : length (F .nodes) ≡ S .graph .nodes) where
+  path-joins : (n : ℕ) (p : List ℕ) → IsPath (schemaOf T) n p → joins (T .graph) n p ≡ true
+  path-joins n p h = and-both (ltb n (T .graph .nodes)) (joins (T .graph) n p) (path-iff T (t .fits) n p .1 h) .1
 
-    path-path : (n : ℕ) (p : List ℕ) → IsPath (schemaOf S) n p → IsPath (schemaOf T) (nodeImage F n) (image (edgeImage F) p)
-    path-path n [] h = f .node-in n h
-    path-path n (e ∷ p) h =
-        let a : IsPath (schemaOf T) (nodeImage F n) (edgeImage F e) = rw (h .1) at (edge-path e (h .0)) in
-        let d : endpoint (target (T .graph)) (nodeImage F n) (edgeImage F e) ≡ nodeImage F (target (S .graph) e) = rw (h .1) at (edge-end e (h .0)) in
-        path-append (schemaOf T) (nodeImage F n) (edgeImage F e) (image (edgeImage F) p) a (rw d (path-path (target (S .graph) e) p (h .2)))
+  module _ (f : Fits S T F) where
+    carried : (n : ℕ) (p : List ℕ) → IsPath (schemaOf S) n p → IsPath (schemaOf T) (nodeImage F n) (image (edgeImage F) p)
+    carried = carried-path (carries s t f)
 
     keeps : keepsEquations S T F ≡ true → (n : ℕ) (a b : List ℕ) → IsListed S n a b → Chain (schemaOf T) (nodeImage F n) (image (edgeImage F) a) (image (edgeImage F) b)
     keeps h n a b (listed {q} m) =
@@ -79,7 +81,7 @@ module _ (S T : Schema) (F : Mapping) (s : WellFormed S) (t : WellFormed T) (nod
         let e′ : equal T (path (nodeImage F n) (image (edgeImage F) a)) (path (nodeImage F n) (image (edgeImage F) b)) ≡ true =
         subst (λ (c : ℕ). equal T (pathImage F (q .left)) (path (nodeImage F c) (image (edgeImage F) b)) ≡ true) (sym (same-starts S (s .fits) q m)) e
         in
-        equal-iff T t (nodeImage F n) (image (edgeImage F) a) (image (edgeImage F) b) (path-path n a (r .left n a b (listed m))) (path-path n b (r .right n a b (listed m))) .0 e′
+        equal-iff T t (nodeImage F n) (image (edgeImage F) a) (image (edgeImage F) b) (carried n a (r .left n a b (listed m))) (carried n b (r .right n a b (listed m))) .0 e′
 
     record Imaged (a : ℕ) : Type 0 where
       exists : attributeImage F a < length (T .attributes)
@@ -97,13 +99,14 @@ module _ (S T : Schema) (F : Mapping) (s : WellFormed S) (t : WellFormed T) (nod
 
   pub mapping-is : imagesFit S T F ≡ true → keepsEquations S T F ≡ true → IsMapping (mappingOf S T F)
   mapping-is h k =
-      let f = fits h in
+      let f = fits S T F nodes h in
+      let c = carries s t f in
       record {
         S-is = schema-is S (s .fits);
         T-is = schema-is T (t .fits);
-        node-in = f .node-in;
-        edge-path = edge-path f;
-        edge-end = edge-end f;
+        node-in = c .node-in;
+        edge-path = c .edge-path;
+        edge-end = c .edge-end;
         equation = keeps f k;
         attribute-in = λ a l. imaged f a l .exists;
         attribute-home = λ a l. imaged f a l .home;
@@ -111,7 +114,7 @@ module _ (S T : Schema) (F : Mapping) (s : WellFormed S) (t : WellFormed T) (nod
       }
 
   module _ (is : IsMapping (mappingOf S T F)) where
-    pub images-fit : imagesFit S T F ≡ true
+    images-fit : imagesFit S T F ≡ true
     images-fit =
         and-intro (and-intro
         (places-all (λ d. ltb d (T .graph .nodes)) (F .nodes) 0 (λ c l. lt-ltb (nodeImage F c) (T .graph .nodes) (is .node-in c (rw nodes at l))))
@@ -123,7 +126,7 @@ module _ (S T : Schema) (F : Mapping) (s : WellFormed S) (t : WellFormed T) (nod
         and-intro (and-intro (lt-ltb b (length (T .attributes)) (is .attribute-in a l)) (eq-eqb (attributeAt T b .kind) (attributeAt S a .kind) (is .attribute-kind a l)))
         (eq-eqb (attributeAt T b .node) (nodeImage F (attributeAt S a .node)) (is .attribute-home a l))))
 
-    pub equations-kept : keepsEquations S T F ≡ true
+    equations-kept : keepsEquations S T F ≡ true
     equations-kept =
         all-in (λ (q : Equation). equal T (pathImage F (q .left)) (pathImage F (q .right))) (S .equations) (λ q m.
         let n = q .left .start in

@@ -80,7 +80,7 @@ module _ {S T : Schema} {F : Mapping} (v : ValidMapping S T F) (I : Instance) wh
   row-is d h n k = family-iff v I d h (piRows S T F I d n) .0 (mem-getD [] (families S T F I d) n (on-list d h n k))
 
   -- its rows at the components are the list
-  pub piRow-rows : (d : ℕ) → d < T .graph .nodes → (n : ℕ) → n < count (pi S T F I) d → rowsAt (piComponents S T F d) (piRow S T F I d n) ≡ piRows S T F I d n
+  piRow-rows : (d : ℕ) → d < T .graph .nodes → (n : ℕ) → n < count (pi S T F I) d → rowsAt (piComponents S T F d) (piRow S T F I d n) ≡ piRows S T F I d n
   piRow-rows d h n k = rowsAt-familyOf v I d h (piRows S T F I d n) (row-is d h n k .0)
 
   -- without components there is exactly 1 row
@@ -178,7 +178,7 @@ module _ {S T : Schema} {F : Mapping} (v : ValidMapping S T F) (I : Instance) wh
         }
 
     -- Pi is an instance of T: links and values in range, and all path equations
-    pub pi-instance : {Range : ℕ → ℕ → Type 0} → IsInstance Range (schemaOf S) (instanceOf I) → IsInstance Range (schemaOf T) (instanceOf (pi S T F I))
+    pi-instance : {Range : ℕ → ℕ → Type 0} → IsInstance Range (schemaOf S) (instanceOf I) → IsInstance Range (schemaOf T) (instanceOf (pi S T F I))
     pi-instance I-is = pi-is (v .is) pi-is-pi paired I-is
 
     -- where it has at most 512 rows

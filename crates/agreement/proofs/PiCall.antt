@@ -51,20 +51,20 @@ module _ (S T : Schema) (F : Mapping) where
   abbrev few : ℕ → Bool
   few d = leb (length (components S T F d)) maxComponents
 
-  pub fewComponents-iff : (hasFewComponents S T F ≡ true) ↔ FewComponents S T F
+  fewComponents-iff : (hasFewComponents S T F ≡ true) ↔ FewComponents S T F
   fewComponents-iff = (
     λ e d h. leb-true (length (components S T F d)) maxComponents (upto-all few (T .graph .nodes) e d h),
     λ k. all-upto few (T .graph .nodes) (λ d h. le-leb (length (components S T F d)) maxComponents (k d h)),
   )
 
-  pub wide-iff : (hasFewComponents S T F ≡ false) ↔ Wide S T F
+  wide-iff : (hasFewComponents S T F ≡ false) ↔ Wide S T F
   wide-iff = (
     λ e. let r = all-fails few (upto (T .graph .nodes)) e in (r .0, of-upto (T .graph .nodes) (r .1), leb-false (length (components S T F (r .0))) maxComponents (r .2)),
     λ w. test-false (hasFewComponents S T F) (λ e. let h = fewComponents-iff .0 e (w .0) (w .1) in let k = w .2 in omega arith),
   )
 
 module _ {S T : Schema} {F : Mapping} (v : ValidMapping S T F) (I : Instance) where
-  pub pi-total : sumOf (pi S T F I .counts) ≡ allFamilies S T F I
+  pi-total : sumOf (pi S T F I .counts) ≡ allFamilies S T F I
   pi-total = sym (rows-sum T (pi S T F I) (pi-shaped v I .tables)) ∙ sum-ext (count (pi S T F I)) (λ d. length (families S T F I d)) (T .graph .nodes) (pi-count S T F I)
 
 -- ---- the call: 13, then 14, then 15

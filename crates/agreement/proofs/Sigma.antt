@@ -52,7 +52,7 @@ module _ {S T : Schema} {F : Mapping} (v : ValidMapping S T F) (E : Even (mappin
       let o = attributeOver-is v E c l b h (sym e) in
       i .shaped .values (attributeOver S F c b) (o .attribute-in) ∙ ap (count I) (o .home-is)
 
-  pub sigma-shaped : Shaped T (sigma S T F I)
+  sigma-shaped : Shaped T (sigma S T F I)
   sigma-shaped = record {
     tables = map-upto-length (λ d. rowsIn I (fibre S F d)) (T .graph .nodes);
     edges = map-upto-length (λ e. concatMap (linksFrom S T F I e) (fibre S F (source (T .graph) e))) (length (T .graph .edges));
@@ -95,7 +95,7 @@ module _ {S T : Schema} {F : Mapping} (v : ValidMapping S T F) (E : Even (mappin
   }
 
   -- Sigma is an instance of T: links and values in range, and all path equations
-  pub sigma-instance : IsInstance (InRange kinds) (schemaOf T) (instanceOf (sigma S T F I))
+  sigma-instance : IsInstance (InRange kinds) (schemaOf T) (instanceOf (sigma S T F I))
   sigma-instance = sigma-is (v .is) E (i .is) sigma-is-sigma
 
   -- as many rows as the run, so that refusal 15 never arises

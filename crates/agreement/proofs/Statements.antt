@@ -12,11 +12,12 @@ use Rattle.theory.specs.Mapping as theoryMapping
 use Rattle.theory.specs.Mapping.{IsMapping, Even, Bijective}
 use Rattle.theory.specs.Sigma.{IsSigma}
 use Rattle.theory.specs.Pi.{Sorted, IsPi}
+use Rattle.theory.proofs.Mapping.{image-chain}
 use Rattle.meaning.specs.Schema.{Path, path, Schema, end, allPaths, hasLoop, height}
 use Rattle.meaning.specs.PathEquality.{equal, classOf}
 use Rattle.meaning.specs.Sheet.{sound}
 use Rattle.meaning.specs.Formats.{Mapping, Instance, kinds, instanceSheet}
-use Rattle.meaning.specs.Views.{schemaOf, mappingOf, instanceOf}
+use Rattle.meaning.specs.Views.{schemaOf, nodeImage, edgeImage, mappingOf, instanceOf}
 use Rattle.meaning.specs.Judge.{isWellFormed, imagesFit, keepsEquations, linksInRange, valuesInRange, obeysEquations, judgeSchema, judgeMapping, judgeInstance}
 use Rattle.meaning.specs.Delta.{delta}
 use Rattle.meaning.specs.Evenness.{even}
@@ -87,6 +88,11 @@ heights-exist = height-iff
 pub tests-7-8 : (S T : Schema) (F : Mapping) → WellFormed S → WellFormed T → length (F .nodes) ≡ S .graph .nodes
     → ((imagesFit S T F ≡ true) × (keepsEquations S T F ≡ true)) ↔ IsMapping (mappingOf S T F)
 tests-7-8 = mapping-iff
+
+-- a mapping respects all path equalities, and not the equations alone
+pub equal-images : {S T : Schema} {F : Mapping} → ValidMapping S T F → (n : ℕ) {p q : List ℕ} → Chain (schemaOf S) n p q → IsPath (schemaOf S) n p
+    → Chain (schemaOf T) (nodeImage F n) (theoryMapping.image (edgeImage F) p) (theoryMapping.image (edgeImage F) q)
+equal-images v = image-chain (v .is)
 
 pub tests-9-10-11 : (S : Schema) (I : Instance) → Shaped S I
     → ((linksInRange S I ≡ true) × (valuesInRange kinds S I ≡ true) × (obeysEquations S I ≡ true)) ↔ IsInstance (InRange kinds) (schemaOf S) (instanceOf I)

@@ -5,8 +5,7 @@ use mathlib.Core.List.{List, _++_}
 use mathlib.Core.Logic.{_↔_}
 use Prim.Native.Nat.{ℕ, _+_, _*_, _<_, _≤_}
 use lib.ListN.{length, take, drop}
-use Rattle.bits.specs.Field.{Bytes, field}
-use Rattle.bits.specs.Pack.{bytesFor}
+use Rattle.bits.specs.Field.{Bytes, field, bytesFor}
 use Rattle.theory.specs.Numbering.{sum}
 use Rattle.theory.specs.Schema as theorySchema
 use Rattle.theory.specs.Instance as theoryInstance

@@ -19,7 +19,8 @@ use Rattle.mapping.specs.declared.Mapping.{Mapping}
 use Rattle.mapping.specs.Decoded.{firstOf, mappingOf}
 use Rattle.mapping.proofs.Viewing.{node-at, edge-at}
 use Rattle.mapping.proofs.Fitting.{attributeTest, attributes-test, fits-by}
-use Rattle.mapping.proofs.Imaging.{Fits, fits}
+use Rattle.agreement.proofs.Mappings.{Fits}
+use Rattle.mapping.proofs.Imaging.{fits}
 use Rattle.instance.proofs.SoundSchema.{source-in, target-in}
 use Rattle.delta.specs.Pulled.{Fitting, edgesOver}
 

@@ -6,7 +6,8 @@ use native.Mathlib.Omega.{arith}
 use native.Mathlib.Nat.{mul-suc, mul-zero, mul-add, zero-add}
 use native.Mathlib.Numerals.{add-one}
 use lib.ListN.{length, drop, getD, replicate}
-use Rattle.bits.specs.Pack.{bytesFor, totalWidth, pack}
+use Rattle.bits.specs.Field.{bytesFor}
+use Rattle.bits.specs.Pack.{totalWidth, pack}
 use Rattle.bits.specs.Put.{put, putAll}
 use Rattle.bits.proofs.Writing.{putAll-append}
 use Rattle.bits.proofs.Packing.{length-pack, totalWidth-append, putAll-pack}

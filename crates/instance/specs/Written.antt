@@ -3,7 +3,7 @@ use Prim.Native.Nat.{ℕ, _+_, _*_, _^_, _≤_, _<_}
 use mathlib.Core.Path.{_≡_}
 use mathlib.Core.List.{List, _++_}
 use lib.ListN.{length, drop}
-use Rattle.bits.specs.Pack.{bytesFor}
+use Rattle.bits.specs.Field.{bytesFor}
 use Rattle.bits.specs.Put.{putAll}
 use Rattle.theory.specs.Numbering.{tabulate}
 use Rattle.meaning.specs.Lists.{sumOf, concatMap}

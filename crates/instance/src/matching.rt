@@ -6,7 +6,7 @@ use bits::reader::lacks_at;
 ghost use mathlib.Core.Path.{_≡_};
 ghost use Prim.Native.Nat.{_*_, _≤_};
 ghost use lib.ListN.{length};
-ghost use Rattle.bits.specs.Pack.{bytesFor};
+ghost use Rattle.bits.specs.Field.{bytesFor};
 ghost use Rattle.meaning.specs.Sheet.{onSheet};
 ghost use Rattle.meaning.specs.Formats.{matchingSheet};
 ghost use Rattle.instance.specs.Decoded.{firstOf};

@@ -2,8 +2,7 @@
 use Prim.Native.Nat.{ℕ, _<_}
 use mathlib.Core.Path.{_≡_, refl, sym, ap, _∙_, subst}
 use mathlib.Core.Bool.{Bool, true, false, not, cond, _&&_}
-use mathlib.Core.List.{List, [], _∷_, List·Memᴰ, List·Memᴰ·head, List·Memᴰ·tail, List·Memᴰ·not-nil, List·Memᴰ·cases-cons}
-use mathlib.Core.Logic.{_⊎_, inl, inr}
+use mathlib.Core.List.{List, List·Memᴰ}
 use native.Mathlib.Omega.{arith}
 use borrow.Author.Tests.{eq-eqb, eqb-true}
 use lib.ListN.{getD}
@@ -21,6 +20,7 @@ use Rattle.meaning.proofs.Tabulate.{and-both}
 use Rattle.meaning.proofs.Lists.{no-bool, and-intro, filter-in, filter-of, all-in, all-of, all-upto, upto-all}
 use Rattle.agreement.proofs.Paths.{pathCount, numberOf, pathAt, number-in, number-path, number-at, pathAt-in, allPaths-each, pathsFrom-each}
 use Rattle.agreement.proofs.Classes.{classes-is}
+use Rattle.agreement.proofs.Evenness.{oneClass-some, oneClass-same, same-oneClass}
 use Rattle.schema.specs.declared.Schema.{Schema}
 use Rattle.schema.specs.declared.Paths.{Paths}
 use Rattle.schema.specs.Decoded.{graphOf, schemaOf}
@@ -54,24 +54,6 @@ not-is false h = refl
 is-not : (a : Bool) → not a ≡ true → a ≡ true → ⊥
 is-not true h e = no-bool (sym h)
 is-not false h e = no-bool (sym e)
-
--- ---- one class
-module _ (S : meaning.Schema) where
-  oneClass-some : (l : List Path) → oneClass S l ≡ true → (p : Path) × List·Memᴰ p l
-  oneClass-some [] e = absurd (no-bool (sym e))
-  oneClass-some (p ∷ l) e = (p, List·Memᴰ·head refl)
-
-  oneClass-same : (l : List Path) → oneClass S l ≡ true → (p q : Path) → List·Memᴰ p l → List·Memᴰ q l → classOf S p ≡ classOf S q
-  oneClass-same [] e p q i j = absurd (List·Memᴰ·not-nil i)
-  oneClass-same (r ∷ l) e p q i j = sym (go p (List·Memᴰ·cases-cons i)) ∙ go q (List·Memᴰ·cases-cons j)
-    where
-      go : (x : Path) → (x ≡ r) ⊎ List·Memᴰ x l → classOf S r ≡ classOf S x
-      go x (inl h) = ap (classOf S) (sym h)
-      go x (inr m) = eqb-true (classOf S r) (classOf S x) (all-of (equal S r) l e m)
-
-  same-oneClass : (l : List Path) {p : Path} → List·Memᴰ p l → ((q r : Path) → List·Memᴰ q l → List·Memᴰ r l → classOf S q ≡ classOf S r) → oneClass S l ≡ true
-  same-oneClass [] m h = absurd (List·Memᴰ·not-nil m)
-  same-oneClass (r ∷ l) m h = all-in (equal S r) l (λ q j. eq-eqb (classOf S r) (classOf S q) (h r q (List·Memᴰ·head refl) (List·Memᴰ·tail j)))
 
 -- ---- a schema's table of paths
 module _ {s : Schema} {p : Paths} (sound : schemas.Sound s) (t : IsPaths (schemaOf s) p) where

@@ -5,6 +5,7 @@ use mathlib.Core.List.{List}
 use native.Mathlib.Omega.{arith}
 use lib.ListN.{length, getD}
 use Rattle.agreement.proofs.Paths.{WellFormed}
+use Rattle.agreement.proofs.Mappings.{Fits}
 use Rattle.schema.specs.declared.Schema.{Schema}
 use Rattle.schema.specs.declared.Paths.{Paths}
 use Rattle.schema.specs.Decoded.{graphOf, schemaOf}
@@ -18,7 +19,7 @@ use Rattle.mapping.specs.declared.Mapping.{Mapping}
 use Rattle.mapping.specs.Decoded.{imageOf, noImage, mappingOf}
 use Rattle.mapping.specs.Judged.{Imageable, imageNumber}
 use Rattle.mapping.proofs.Viewing.{node-at, edge-at}
-use Rattle.mapping.proofs.Imaging.{Fits, fits, image-trivial, image-next, image-below}
+use Rattle.mapping.proofs.Imaging.{fits, image-trivial, image-next, image-below}
 
 pub formed : {s : Schema} → Sound s → WellFormed (schemaOf s)
 formed h = record { fits = h .well-formed; acyclic = h .acyclic }

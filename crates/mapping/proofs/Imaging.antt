@@ -1,24 +1,21 @@
 -- Images of paths: they are paths of T, and their numbers are found along the table of T's paths.
 use Prim.Native.Nat.{ℕ, _+_, _<_, _≤_}
-use mathlib.Core.Path.{_≡_, refl, sym, ap, _∙_}
-use mathlib.Core.Bool.{true, _&&_}
+use mathlib.Core.Path.{_≡_, sym, ap, _∙_}
+use mathlib.Core.Bool.{true}
 use mathlib.Core.List.{List, [], _∷_, _++_, append-nil, List·Memᴰ}
 use native.Mathlib.Omega.{arith}
-use borrow.Author.Tests.{ltb-true, lt-ltb, eqb-true}
 use lib.ListN.{length, getD}
-use lib.Dec.{ltb, eqb}
 use Rattle.theory.specs.Schema.{IsPath, endpoint}
 use Rattle.theory.specs.Mapping.{image}
-use Rattle.theory.proofs.Schema.{endpoint-append, path-append}
-use Rattle.theory.proofs.Mapping.{image-append}
-use Rattle.meaning.specs.Lists.{upto, all}
-use Rattle.meaning.specs.Schema.{Path, path, Schema, source, target, joins, end, allPaths}
+use Rattle.theory.proofs.Numbering.{tabulate-length}
+use Rattle.theory.proofs.Mapping.{image-append, carried-end, carried-path}
+use Rattle.meaning.specs.Schema.{Path, path, Schema, source, target, end, allPaths}
 use Rattle.meaning.specs.Formats.{Mapping}
-use Rattle.meaning.specs.Judge.{edgeImageFits, attributeImageFits, imagesFit}
+use Rattle.meaning.specs.Judge.{imagesFit}
 use Rattle.meaning.specs.Views.{schemaOf, nodeImage, edgeImage, pathImage}
-use Rattle.meaning.proofs.Tabulate.{and-both, all-at}
-use Rattle.meaning.proofs.Lists.{and-intro, upto-all}
-use Rattle.agreement.proofs.Paths.{WellFormed, schema-is, path-iff, allPaths-each, pathCount, numberOf, pathAt, number-in, number-path, number-at, pathAt-in}
+use Rattle.agreement.proofs.Mappings as agreement
+use Rattle.agreement.proofs.Mappings.{Fits, carries}
+use Rattle.agreement.proofs.Paths.{WellFormed, allPaths-each, pathCount, numberOf, pathAt, number-in, number-path, number-at, pathAt-in}
 use Rattle.schema.specs.declared.Schema as declared
 use Rattle.schema.specs.Decoded as schemas
 use Rattle.schema.specs.PathNumbers.{parentOf, lastOf, endOf}
@@ -30,13 +27,6 @@ use Rattle.schema.proofs.PathWalks.{walk-reaches}
 use Rattle.mapping.specs.declared.Mapping as declaredMapping
 use Rattle.mapping.specs.Decoded.{mappingOf}
 use Rattle.mapping.specs.Judged.{imageNumber}
-use Rattle.mapping.proofs.Viewing.{node-at}
-
--- what refusal 7 leaves: of nodes and edges
-pub record Fits (S T : Schema) (F : Mapping) : Type 0 where
-  pub node-in : (c : ℕ) → c < S .graph .nodes → nodeImage F c < T .graph .nodes
-  pub edge-joins : (e : ℕ) → e < length (S .graph .edges) → joins (T .graph) (nodeImage F (source (S .graph) e)) (edgeImage F e) ≡ true
-  pub edge-end : (e : ℕ) → e < length (S .graph .edges) → endpoint (target (T .graph)) (nodeImage F (source (S .graph) e)) (edgeImage F e) ≡ nodeImage F (target (S .graph) e)
 
 module _ (s : declared.Schema) (T : Schema) (m : declaredMapping.Mapping) where
   abbrev S : Schema
@@ -45,42 +35,17 @@ module _ (s : declared.Schema) (T : Schema) (m : declaredMapping.Mapping) where
   abbrev F : Mapping
   F = mappingOf s m
 
+  -- what refusal 7 leaves
   pub fits : imagesFit S T F ≡ true → Fits S T F
-  fits h =
-      let a = all (λ d. ltb d (T .graph .nodes)) (F .nodes) in
-      let b = all (edgeImageFits S T F) (upto (length (S .graph .edges))) in
-      let u = and-both (a && b) (all (attributeImageFits S T F) (upto (length (S .attributes)))) h in
-      let v = and-both a b (u .0) in
-      record {
-        node-in = λ c l. rw (node-at s m c l) (ltb-true (getD (m .node) c 0) (T .graph .nodes) (all-at (λ d. ltb d (T .graph .nodes)) (s .graph .nodes) (λ i. getD (m .node) i 0) (v .0) c l));
-        edge-joins = λ e l. test (v .1) e l .0;
-        edge-end = λ e l. eqb-true (endpoint (target (T .graph)) (nodeImage F (source (S .graph) e)) (edgeImage F e)) (nodeImage F (target (S .graph) e)) (test (v .1) e l .1);
-      }
-    where
-      test : all (edgeImageFits S T F) (upto (length (S .graph .edges))) ≡ true → (e : ℕ) → e < length (S .graph .edges) →
-          (joins (T .graph) (nodeImage F (source (S .graph) e)) (edgeImage F e) ≡ true) ×
-          (eqb (endpoint (target (T .graph)) (nodeImage F (source (S .graph) e)) (edgeImage F e)) (nodeImage F (target (S .graph) e)) ≡ true)
-      test k e l = and-both (joins (T .graph) (nodeImage F (source (S .graph) e)) (edgeImage F e)) (eqb (endpoint (target (T .graph)) (nodeImage F (source (S .graph) e)) (edgeImage F e)) (nodeImage F (target (S .graph) e))) (upto-all (edgeImageFits S T F) (length (S .graph .edges)) k e l)
+  fits = agreement.fits S T F (tabulate-length (s .graph .nodes) (λ i. getD (m .node) i 0))
 
 module _ {S T : Schema} {F : Mapping} (formed : WellFormed S) (target-formed : WellFormed T) (f : Fits S T F) where
-  edge-path : (e : ℕ) → e < length (S .graph .edges) → IsPath (schemaOf T) (nodeImage F (source (S .graph) e)) (edgeImage F e)
-  edge-path e l =
-      let n = nodeImage F (source (S .graph) e) in
-      path-iff T (target-formed .fits) n (edgeImage F e) .0 (and-intro (lt-ltb n (T .graph .nodes) (f .node-in (source (S .graph) e) (schema-is S (formed .fits) .src-in e l))) (f .edge-joins e l))
-
   -- a path's image is a path, and ends at the image of its end
   pub image-path : (n : ℕ) (p : List ℕ) → IsPath (schemaOf S) n p → IsPath (schemaOf T) (nodeImage F n) (image (edgeImage F) p)
-  image-path n [] h = f .node-in n h
-  image-path n (e ∷ p) h =
-      let d : endpoint (target (T .graph)) (nodeImage F n) (edgeImage F e) ≡ nodeImage F (target (S .graph) e) = rw (h .1) at (f .edge-end e (h .0)) in
-      path-append (schemaOf T) (nodeImage F n) (edgeImage F e) (image (edgeImage F) p) (rw (h .1) at (edge-path e (h .0))) (rw d (image-path (target (S .graph) e) p (h .2)))
+  image-path = carried-path (carries formed target-formed f)
 
-  pub image-end : (n : ℕ) (p : List ℕ) → IsPath (schemaOf S) n p → endpoint (target (T .graph)) (nodeImage F n) (image (edgeImage F) p) ≡ nodeImage F (endpoint (target (S .graph)) n p)
-  image-end n [] h = refl
-  image-end n (e ∷ p) h =
-      endpoint-append (target (T .graph)) (nodeImage F n) (edgeImage F e) (image (edgeImage F) p)
-      ∙ ap (λ (d : ℕ). endpoint (target (T .graph)) d (image (edgeImage F) p)) (rw (h .1) at (f .edge-end e (h .0)))
-      ∙ image-end (target (S .graph) e) p (h .2)
+  image-end : (n : ℕ) (p : List ℕ) → IsPath (schemaOf S) n p → endpoint (target (T .graph)) (nodeImage F n) (image (edgeImage F) p) ≡ nodeImage F (endpoint (target (S .graph)) n p)
+  image-end = carried-end (carries formed target-formed f)
 
   path-is : (i : ℕ) → i < pathCount (S .graph) → IsPath (schemaOf S) (pathAt (S .graph) i .start) (pathAt (S .graph) i .edges)
   path-is i h = allPaths-each S formed (pathAt (S .graph) i) .0 (pathAt-in (S .graph) i h)

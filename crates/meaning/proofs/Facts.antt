@@ -8,7 +8,7 @@ use lib.ListN.{length, getD}
 use lib.Dec.{leb}
 use borrow.Author.Tests.{leb-true, not-true}
 use Rattle.meaning.specs.Lists.{sumOf}
-use Rattle.meaning.specs.Schema.{Path, Equation, Graph, Schema, source, target, attributeAt, isPath, hasLoop}
+use Rattle.meaning.specs.Schema.{Equation, Schema, source, target, attributeAt, hasLoop}
 use Rattle.meaning.specs.Sheet.{sound, onSheet}
 use Rattle.meaning.specs.Formats.{Counts, Mapping, Instance, maxNodes, maxEdges, maxAttributes, maxEquations, maxRows, countsInLimits, readEdges, readPath, readCounts, readEdge, readAttribute, readEquation, readLists, readSchema, readMapping, readInstance, readMatching, kinds}
 use Rattle.meaning.specs.Views.{count, link, column, value, edgeImage}
@@ -23,10 +23,6 @@ gives-edges = gives-bind (gives-field 4) (λ k h. gives-as (gives-times k (gives
 
 gives-path : Gives readPath (λ p. length (p .edges) ≤ 15)
 gives-path = gives-bind (gives-field 4) (λ n _. gives-bind gives-edges (λ es h. gives-give h))
-
-pub record PathFacts (G : Graph) (p : Path) : Type 0 where
-  pub is-path : isPath G p ≡ true
-  pub short : length (p .edges) ≤ 15
 
 -- ---- schemas
 

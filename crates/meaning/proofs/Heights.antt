@@ -2,7 +2,7 @@
 use Prim.Native.Nat.{ℕ, zero, suc, _+_, _-_, _<_, _≤_, max}
 use mathlib.Core.Path.{_≡_, refl, sym, ap, _∙_}
 use mathlib.Core.Bool.{Bool, true, false, _||_}
-use mathlib.Core.List.{List, [], _∷_, _++_, map}
+use mathlib.Core.List.{List, [], _∷_, _++_, map, append-nil}
 use native.Mathlib.Omega.{arith}
 use native.Mathlib.Numerals.{add-one}
 use native.Mathlib.Nat.{add-zero}
@@ -11,6 +11,8 @@ use lib.Dec.{eqb}
 use borrow.Author.Tests.{eq-eqb, ne-eqb, eqb-true, eqb-false}
 use Rattle.meaning.specs.Lists.{range, upto, filter, any, consIf}
 use Rattle.meaning.specs.Schema.{Graph, source, target, leaving, hasPathOf, largest, heightOver, heightWithin}
+use Rattle.meaning.proofs.Tabulate.{rest-count}
+use Rattle.meaning.proofs.Lists.{filter-append}
 
 range-more : (k start : ℕ) → range start (suc k) ≡ range start k ++ ((start + k) ∷ [])
 range-more zero start = rw add-zero
@@ -20,24 +22,15 @@ pub upto-more : (k : ℕ) → upto (k + 1) ≡ upto k ++ (k ∷ [])
 upto-more k = ap upto (add-one k) ∙ range-more k 0 ∙ ap (λ (x : ℕ). upto k ++ (x ∷ [])) (omega arith)
 
 pub filter-one : (f : ℕ → Bool) (l : List ℕ) (x : ℕ) → filter f (l ++ (x ∷ [])) ≡ filter f l ++ consIf (f x) x []
-filter-one f [] x = refl
-filter-one f (y ∷ l) x = go (f y) (filter-one f l x)
-  where
-    go : (b : Bool) → filter f (l ++ (x ∷ [])) ≡ filter f l ++ consIf (f x) x [] → consIf b y (filter f (l ++ (x ∷ []))) ≡ consIf b y (filter f l) ++ consIf (f x) x []
-    go true e = ap (λ (m : List ℕ). y ∷ m) e
-    go false e = e
+filter-one f l x = filter-append f l (x ∷ [])
 
 high-one : (f : ℕ → ℕ) (l : List ℕ) (x : ℕ) → largest (map f (l ++ (x ∷ []))) ≡ max (largest (map f l)) (f x)
 high-one f [] x = omega arith
 high-one f (y ∷ l) x = let e = high-one f l x in omega arith
 
-pub append-none : (l : List ℕ) → l ++ [] ≡ l
-append-none [] = refl
-append-none (x ∷ l) = ap (λ (m : List ℕ). x ∷ m) (append-none l)
-
 module _ (G : Graph) (h : ℕ → ℕ) (n k : ℕ) where
   pub over-skip : (source G k ≡ n → ⊥) → heightOver G h n (k + 1) ≡ heightOver G h n k
-  over-skip q = rw (upto-more k, filter-one (λ e. eqb (source G e) n) (upto k) k, ne-eqb (source G k) n q, append-none)
+  over-skip q = rw (upto-more k, filter-one (λ e. eqb (source G e) n) (upto k) k, ne-eqb (source G k) n q, append-nil)
 
   pub over-here : source G k ≡ n → heightOver G h n (k + 1) ≡ max (heightOver G h n k) (suc (h (target G k)))
   over-here q =
@@ -84,10 +77,10 @@ any-same : (f g : ℕ → Bool) → ((x : ℕ) → f x ≡ g x) → (l : List �
 any-same f g e [] = refl
 any-same f g e (x ∷ l) = rw (e x, any-same f g e l)
 
-pub go-height : (G : Graph) (k n : ℕ) → hasPathOf G k n ≡ eqb (heightWithin G k n) k
-go-height G zero n = refl
-go-height G (suc k) n =
-    any-same (λ e. hasPathOf G k (target G e)) (λ e. eqb (heightWithin G k (target G e)) k) (λ e. go-height G k (target G e)) (leaving G n)
+pub hasPathOf-height : (G : Graph) (k n : ℕ) → hasPathOf G k n ≡ eqb (heightWithin G k n) k
+hasPathOf-height G zero n = refl
+hasPathOf-height G (suc k) n =
+    any-same (λ e. hasPathOf G k (target G e)) (λ e. eqb (heightWithin G k (target G e)) k) (λ e. hasPathOf-height G k (target G e)) (leaving G n)
     ∙ any-high (λ e. heightWithin G k (target G e)) k (λ e. height-le G k (target G e)) (leaving G n)
 
 -- ---- a loop over all nodes that looks for one
@@ -98,15 +91,12 @@ pub record Missed (f : ℕ → Bool) (n i : ℕ) : Type 0 where
 pub missed-start : (f : ℕ → Bool) (n : ℕ) → Missed f n 0
 missed-start f n = record { some = omega arith; so = let z : n - 0 ≡ n = omega arith in rw z }
 
-left : (n i : ℕ) → i < n → n - i ≡ suc (n - (i + 1))
-left n i l = omega arith
-
 module _ {f : ℕ → Bool} {n i : ℕ} where
   pub missed-more : Missed f n i → i < n → f i ≡ false → Missed f n (i + 1)
-  missed-more u l e = record { some = omega arith; so = u .so ∙ rw (left n i l, e, add-one) }
+  missed-more u l e = record { some = omega arith; so = u .so ∙ rw (rest-count n i l, e, add-one) }
 
   pub missed-hit : Missed f n i → i < n → f i ≡ true → any f (upto n) ≡ true
-  missed-hit u l e = u .so ∙ rw (left n i l, e)
+  missed-hit u l e = u .so ∙ rw (rest-count n i l, e)
 
   pub missed-done : Missed f n i → n ≤ i → any f (upto n) ≡ false
   missed-done u l = let z : n - i ≡ 0 = omega arith in u .so ∙ rw z

@@ -1,3 +1,4 @@
+-- Laws of these definitions, and the runs of document 01.
 pub mod Lists
 pub mod Tabulate
 pub mod Reading

@@ -73,6 +73,14 @@ module _ {A : Type 0} where
       go true p below k = here p below (List·Memᴰ·cases-cons k)
       go false p below k = later (below k)
 
+  pub filter-append : (f : A → Bool) (l m : List A) → filter f (l ++ m) ≡ filter f l ++ filter f m
+  filter-append f [] m = refl
+  filter-append f (x ∷ l) m = go (f x) (filter-append f l m)
+    where
+      go : (b : Bool) → filter f (l ++ m) ≡ filter f l ++ filter f m → consIf b x (filter f (l ++ m)) ≡ consIf b x (filter f l) ++ filter f m
+      go true e = ap (λ (k : List A). x ∷ k) e
+      go false e = e
+
   pub all-in : (f : A → Bool) (l : List A) → ((a : A) → List·Memᴰ a l → f a ≡ true) → all f l ≡ true
   all-in f [] h = refl
   all-in f (x ∷ xs) h = and-intro (h x (List·Memᴰ·head refl)) (all-in f xs (λ a m. h a (List·Memᴰ·tail m)))

@@ -19,7 +19,7 @@ use Rattle.meaning.specs.Calls.{Outcome, accepted, _>>=_, at, Sides, sid
 use Rattle.meaning.proofs.Facts.{matching-facts}
 use Rattle.meaning.proofs.Written.{matching-judged-sheet}
 use Rattle.meaning.proofs.Matchings.{matchings, matchings-all}
-use Rattle.meaning.proofs.Examples.{vendor, operator, vendorToOperator, run, book}
+use Rattle.meaning.proofs.Examples.{vendor, operator, vendorToOperator, run, book, pushedList, rawList}
 
 -- the base example's sheets as read, with both migrated tables
 abbrev pub base : Sides
@@ -43,13 +43,13 @@ base = record {
   pulled = record { counts = 3 ∷ 2 ∷ 3 ∷ []; links = (0 ∷ 1 ∷ 1 ∷ []) ∷ (0 ∷ 1 ∷ 1 ∷ []) ∷ []; values = (300 ∷ 705 ∷ 700 ∷ []) ∷ (300 ∷ 705 ∷ 700 ∷ []) ∷ [] };
 }
 
--- the only matchings are 2 0 1 0 1 (pushed) and 2 0 0 1 1 (raw)
+-- the only matchings are 2 0 1 0 1 (pushed) and 2 0 0 1 1 (raw), as lists and as sheets
 pub record OnlyMatchings : Type 0 where
   pub read : sides vendor operator vendorToOperator run book ≡ accepted base
   pub pushed-list : (l : List ℕ) → length l ≡ 5 → isMatching (base .m .T) (base .pushed) (base .book) l ≡ true ↔ l ≡ 2 ∷ 0 ∷ 1 ∷ 0 ∷ 1 ∷ []
   pub raw-list : (l : List ℕ) → length l ≡ 5 → isMatching (base .m .S) (base .run) (base .pulled) l ≡ true ↔ l ≡ 2 ∷ 0 ∷ 0 ∷ 1 ∷ 1 ∷ []
-  pub pushed-sheet : (k : List ℕ) → Bytes k → checkPushed vendor operator vendorToOperator run book k ≡ accepted tt ↔ k ≡ matchingSheet (2 ∷ 0 ∷ 1 ∷ 0 ∷ 1 ∷ [])
-  pub raw-sheet : (k : List ℕ) → Bytes k → checkRaw vendor operator vendorToOperator run book k ≡ accepted tt ↔ k ≡ matchingSheet (2 ∷ 0 ∷ 0 ∷ 1 ∷ 1 ∷ [])
+  pub pushed-sheet : (k : List ℕ) → Bytes k → checkPushed vendor operator vendorToOperator run book k ≡ accepted tt ↔ k ≡ pushedList
+  pub raw-sheet : (k : List ℕ) → Bytes k → checkRaw vendor operator vendorToOperator run book k ≡ accepted tt ↔ k ≡ rawList
 
 base-read : sides vendor operator vendorToOperator run book ≡ accepted base
 unfolding field bit tailOk
@@ -94,7 +94,7 @@ module _ {S : Schema} {A B : Instance} {l : List ℕ} (only : Only S A B l) wher
   only-sheet k b = (sheet-only k b, λ h. ap (λ (k : List ℕ). checked (judgeMatching S A B k)) h ∙ ap checked (only .read))
 
 pub only-matchings : OnlyMatchings
-unfolding sum
+unfolding pack gather bitsOf digits number totalWidth sum
 only-matchings = record {
   read = base-read;
   pushed-list = only-list only-pushed;

@@ -1,7 +1,6 @@
 -- The other runs of document 01, its traps and its program, computed: a second table.
 use Prim.Native.Nat.{ℕ}
-use Prim.Native.Char.{code}
-use Prim.Native.String.{String, [] as noText, _∷_ as _before_}
+use Prim.Native.String.{String}
 use mathlib.Core.Path.{_≡_, refl}
 use mathlib.Core.List.{List, [], _∷_, _++_, map}
 use lib.ListN.{replicate, take}
@@ -11,10 +10,9 @@ use native.Mathlib.Decide.{ℕ-discrete, decLe}
 use Rattle.theory.specs.Numbering.{sum, locate}
 use Rattle.theory.specs.Sigma.{share}
 use Rattle.theory.specs.Matching.{partners}
-use Rattle.meaning.specs.Formats.{matchingSheet}
 use Rattle.meaning.specs.Calls.{Outcome, refused, accepted, checkSchema, checkInstance, deltaTables, sigmaTables, piTables, sheetOf, pushedToRaw, rawToPushed, Lent, inTray}
-use Rattle.meaning.specs.Program.{push}
-use Rattle.meaning.proofs.Examples.{vendor, operator, vendorToOperator, run, pushedRun, book, point}
+use Rattle.meaning.specs.Program.{codes, push}
+use Rattle.meaning.proofs.Examples.{vendor, operator, vendorToOperator, run, pushedRun, book, pushedList, rawList, point}
 use Rattle.meaning.proofs.Cases.{Answer, bytes, counts, checked, told, countsOf}
 
 -- ---- sheets
@@ -47,6 +45,14 @@ fiveEdges = 0x10 ∷ 0xA0 ∷ 0x00 ∷ 0x04 ∷ 0x04 ∷ 0x04 ∷ 0x04 ∷ 0x04 
 abbrev pub equalRows : List ℕ
 equalRows = 0x00 ∷ 0x80 ∷ 0x10 ∷ 0x04 ∷ 0x00 ∷ 0x00 ∷ 0x00 ∷ 0x00 ∷ 0x00 ∷ 0x01 ∷ 0x5E ∷ 0x00 ∷ 0x00 ∷ 0x01 ∷ 0x5E ∷ 0x00 ∷ 0x00 ∷ 0x01 ∷ 0x5E ∷ 0x00 ∷ []
 
+-- one node with a station
+abbrev pub station : List ℕ
+station = 0x08 ∷ 0x01 ∷ 0x00 ∷ 0x04 ∷ []
+
+-- one row, with the largest value
+abbrev pub largestValue : List ℕ
+largestValue = 0x00 ∷ 0x7F ∷ 0xFF ∷ 0xFF ∷ 0xFF ∷ 0xC0 ∷ []
+
 -- ---- the table
 
 pub record Example : Type 0 where
@@ -65,11 +71,6 @@ module _ {A : Type 0} where
 abbrev pub lent : Lent → Outcome Answer
 lent l = told (λ n. bytes (take n (l .tray))) (l .answer)
 
--- a text's characters as numbers
-abbrev pub codes : String → List ℕ
-codes noText = []
-codes (c before s) = code c ∷ codes s
-
 abbrev pub prints : List ℕ → Outcome Answer
 prints text = accepted (bytes text)
 
@@ -86,10 +87,10 @@ moreCases =
     example "the base example printed" (prints (push ((0 ∷ 7 ∷ vendor) ++ (0 ∷ 5 ∷ operator) ++ (0 ∷ 5 ∷ vendorToOperator) ++ (0 ∷ 20 ∷ run))))
     (prints (codes "tables 2 rows 5\n0 0 1 700\n0 1 0 300\n0 2 1 705\n1 0\n1 1\n")) ∷
     example "no input" (prints (push [])) (prints (codes "refused 1 1\n")) ∷
-    example "case 3's pushed matching turned" (told bytes (pushedToRaw vendor operator vendorToOperator run book (matchingSheet (2 ∷ 0 ∷ 1 ∷ 0 ∷ 1 ∷ []))))
-    (accepted (bytes (matchingSheet (2 ∷ 0 ∷ 0 ∷ 1 ∷ 1 ∷ [])))) ∷
-    example "and turned back" (told bytes (rawToPushed vendor operator vendorToOperator run book (matchingSheet (2 ∷ 0 ∷ 0 ∷ 1 ∷ 1 ∷ []))))
-    (accepted (bytes (matchingSheet (2 ∷ 0 ∷ 1 ∷ 0 ∷ 1 ∷ [])))) ∷
+    example "a length of 256 and 7 bytes" (prints (push (1 ∷ 0 ∷ vendor))) (prints (codes "refused 1 2\n")) ∷
+    example "ten digits" (prints (push ((0 ∷ 4 ∷ station) ++ (0 ∷ 4 ∷ station) ++ (0 ∷ 1 ∷ 0x00 ∷ []) ++ (0 ∷ 6 ∷ largestValue)))) (prints (codes "tables 1 rows 1\n0 0 4294967295\n")) ∷
+    example "case 3's pushed matching turned" (told bytes (pushedToRaw vendor operator vendorToOperator run book pushedList)) (accepted (bytes rawList)) ∷
+    example "and turned back" (told bytes (rawToPushed vendor operator vendorToOperator run book rawList)) (accepted (bytes pushedList)) ∷
     example "equal raw rows are kept" (told countsOf (sigmaTables vendor operator vendorToOperator equalRows)) (accepted (counts (3 ∷ 1 ∷ []))) ∷
     example "a table without components" (told countsOf (piTables point twoPoints (0x10 ∷ []) (0x00 ∷ 0x80 ∷ []))) (accepted (counts (1 ∷ 2 ∷ []))) ∷
     example "80 components" (told countsOf (piTables points fiveEdges (replicate 8 0x11) (replicate 20 0))) (refused 14 0) ∷

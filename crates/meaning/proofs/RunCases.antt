@@ -10,7 +10,7 @@ use lib.ListN.{length, getD, length-map}
 use lib.Dec.{leb, ltb, eqb}
 use borrow.Author.Tests.{ltb-true, le-leb, eq-eqb, ne-eqb}
 use Rattle.bits.specs.Field.{field, bit, tailOk}
-use Rattle.meaning.specs.Lists.{range, upto, filter, consIf, all, tuples}
+use Rattle.meaning.specs.Lists.{range, upto, filter, all, tuples}
 use Rattle.meaning.specs.Sheet.{sound}
 use Rattle.meaning.specs.Formats.{Instance, maxRows}
 use Rattle.meaning.specs.Views.{count, rows, link}
@@ -19,7 +19,7 @@ use Rattle.meaning.specs.Evenness.{even}
 use Rattle.meaning.specs.Pi.{families}
 use Rattle.meaning.specs.Calls.{refused, accepted, Migration, migration, sigmaTables, piTables}
 use Rattle.theory.proofs.Order.{mem-getD}
-use Rattle.meaning.proofs.Lists.{of-upto, all-of, upto-length, getD-sum}
+use Rattle.meaning.proofs.Lists.{of-upto, all-of, upto-length, getD-sum, filter-append}
 use Rattle.meaning.proofs.Facts.{InstanceFacts, instance-facts}
 use Rattle.meaning.proofs.Examples.{arrow, point, arrowToPoint, fork, line, forkToLine}
 
@@ -71,15 +71,6 @@ pub fork-to-line : ForkToLine
 fork-to-line = record { read = fork-read; sigma = λ i I h. uneven fork line forkToLine i fork-read h refl }
 
 -- ---- Pi
-
-module _ {A : Type 0} where
-  filter-append : (f : A → Bool) (l m : List A) → filter f (l ++ m) ≡ filter f l ++ filter f m
-  filter-append f [] m = refl
-  filter-append f (x ∷ l) m = go (f x) (filter-append f l m)
-    where
-      go : (b : Bool) → filter f (l ++ m) ≡ filter f l ++ filter f m → consIf b x (filter f (l ++ m)) ≡ consIf b x (filter f l) ++ filter f m
-      go true e = ap (λ (k : List A). x ∷ k) e
-      go false e = e
 
 -- pairs whose second part is g of the first
 module _ (g : ℕ → ℕ) where

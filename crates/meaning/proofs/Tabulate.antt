@@ -1,5 +1,5 @@
 -- Laws of `tabulate`: what is decoded into arrays, read as a list.
-use Prim.Native.Nat.{ℕ, zero, suc, _+_, _<_, _≤_}
+use Prim.Native.Nat.{ℕ, zero, suc, _+_, _-_, _<_, _≤_}
 use mathlib.Core.Path.{_≡_, refl, ap, _∙_}
 use mathlib.Core.Bool.{Bool, true, false, _&&_}
 use mathlib.Core.List.{List, [], _∷_, _++_}
@@ -38,6 +38,9 @@ module _ {A : Type 0} (P : ℕ → A → Type 0) (d : A) (l : List A) (i : ℕ) 
       (rw (getD-set-same l i v d h) e)
 
 -- ---- what is left of a list after i things: the invariant of a loop over it is `F xs ≡ F (drop i xs)`
+pub rest-count : (n i : ℕ) → i < n → n - i ≡ suc (n - (i + 1))
+rest-count n i h = omega arith
+
 module _ {A : Type 0} (f : ℕ → A) where
   pub rest-more : (n i : ℕ) → i < n → drop i (tabulate n f) ≡ f i ∷ drop (i + 1) (tabulate n f)
   rest-more n i h =

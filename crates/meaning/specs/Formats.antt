@@ -159,8 +159,11 @@ readInstance S = do
 abbrev pub fieldsOf : ℕ → List ℕ → List (ℕ × ℕ)
 fieldsOf w = map (λ v. (w, v))
 
+abbrev pub instanceFields : Instance → List (ℕ × ℕ)
+instanceFields I = fieldsOf 10 (I .counts) ++ concatMap (fieldsOf 9) (I .links) ++ concatMap (fieldsOf 32) (I .values)
+
 abbrev pub instanceSheet : Instance → List ℕ
-instanceSheet I = pack (fieldsOf 10 (I .counts) ++ concatMap (fieldsOf 9) (I .links) ++ concatMap (fieldsOf 32) (I .values))
+instanceSheet I = pack (instanceFields I)
 
 -- the table list: for each table, its first row among all rows, and its count
 pub record Table : Type 0 where

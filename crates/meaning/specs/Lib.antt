@@ -1,3 +1,4 @@
+-- Document 01 as definitions, in its own order.
 pub mod Lists
 pub mod Schema
 pub mod PathEquality

@@ -1,5 +1,7 @@
 -- The push program: what it prints, of what it reads (document 01, 'Runs to check against').
 use Prim.Native.Nat.{ℕ, zero, suc, _+_, _*_, _/_, _%_}
+use Prim.Native.Char.{code}
+use Prim.Native.String.{String, [] as noText, _∷_ as _before_}
 use mathlib.Core.Bool.{true, false}
 use mathlib.Core.List.{List, [], _∷_, _++_, map}
 use lib.ListN.{take, drop}
@@ -28,43 +30,55 @@ laterSheets input = drop (announced input) (drop 2 input)
 
 -- ---- output
 
+-- a text's characters as bytes
+abbrev pub codes : String → List ℕ
+codes noText = []
+codes (c before s) = code c ∷ codes s
+
+abbrev pub space : ℕ
+space = code " "
+
+abbrev pub newline : ℕ
+newline = code "\n"
+
+-- the digit of a number below 10
+abbrev pub digit : ℕ → ℕ
+digit n = code "0" + n
+
 -- the decimal digits of n, which has at most fuel + 1
 abbrev pub digitsWithin : ℕ → ℕ → List ℕ
-digitsWithin zero n = (48 + n % 10) ∷ []
-digitsWithin (suc fuel) n = elim (ltb n 10) [ true ↦ (48 + n) ∷ [] | false ↦ digitsWithin fuel (n / 10) ++ ((48 + n % 10) ∷ []) ]
+digitsWithin zero n = digit (n % 10) ∷ []
+digitsWithin (suc fuel) n = elim (ltb n 10) [ true ↦ digit n ∷ [] | false ↦ digitsWithin fuel (n / 10) ++ (digit (n % 10) ∷ []) ]
 
+-- a value is below 2 ^ 32, and has at most 10 digits
 abbrev pub decimal : ℕ → List ℕ
 decimal n = digitsWithin 9 n
 
 -- a line: its parts with one space between them, and a newline
 abbrev pub line : List (List ℕ) → List ℕ
-line [] = 10 ∷ []
-line (w ∷ []) = w ++ (10 ∷ [])
-line (w ∷ v ∷ ws) = w ++ (32 ∷ line (v ∷ ws))
-
--- the words `tables`, `rows` and `refused`
-abbrev pub wordTables : List ℕ
-wordTables = 116 ∷ 97 ∷ 98 ∷ 108 ∷ 101 ∷ 115 ∷ []
-
-abbrev pub wordRows : List ℕ
-wordRows = 114 ∷ 111 ∷ 119 ∷ 115 ∷ []
-
-abbrev pub wordRefused : List ℕ
-wordRefused = 114 ∷ 101 ∷ 102 ∷ 117 ∷ 115 ∷ 101 ∷ 100 ∷ []
+line [] = newline ∷ []
+line (w ∷ []) = w ++ (newline ∷ [])
+line (w ∷ v ∷ ws) = w ++ (space ∷ line (v ∷ ws))
 
 -- a row: table, row, link targets, values
 abbrev pub rowLine : Schema → Instance → ℕ → ℕ → List ℕ
 rowLine T J d r = line (map decimal (d ∷ r ∷ (map (λ e. link J e r) (leaving (T .graph) d) ++ map (λ b. value J b r) (attributesAt T d))))
 
+-- the lines of all rows, tables in order
+abbrev pub rowLines : Schema → Instance → List ℕ
+rowLines T J = concatMap (λ d. concatMap (rowLine T J d) (rows J d)) (upto (T .graph .nodes))
+
+-- a header with tables and rows, then the rows
 abbrev pub printed : Migrated → List ℕ
 printed m =
-    line (wordTables ∷ decimal (m .schema .graph .nodes) ∷ wordRows ∷ decimal (sumOf (m .tables .counts)) ∷ []) ++
-    concatMap (λ d. concatMap (rowLine (m .schema) (m .tables) d) (rows (m .tables) d)) (upto (m .schema .graph .nodes))
+    line (codes "tables" ∷ decimal (m .schema .graph .nodes) ∷ codes "rows" ∷ decimal (sumOf (m .tables .counts)) ∷ []) ++
+    rowLines (m .schema) (m .tables)
 
 abbrev pub shown : Outcome Migrated → List ℕ
-shown (refused n place) = line (wordRefused ∷ decimal n ∷ decimal place ∷ [])
+shown (refused n place) = line (codes "refused" ∷ decimal n ∷ decimal place ∷ [])
 shown (accepted m) = printed m
 
+-- of the sheets S and T, and the input behind them
 abbrev pub pushRest : List ℕ → List ℕ → List ℕ → List ℕ
 pushRest s t input = shown (sigmaTables s t (firstSheet input) (firstSheet (laterSheets input)))
 

@@ -2,7 +2,7 @@
 use Prim.Native.Nat.{ℕ, suc, _+_, _-_, _<_, _≤_}
 use mathlib.Core.Path.{_≡_, refl, sym, ap, _∙_, fun-ext}
 use mathlib.Core.Bool.{false}
-use mathlib.Core.List.{List, [], _∷_, _++_, map, append-assoc, append-nil}
+use mathlib.Core.List.{List, [], _∷_, _++_, map, append-assoc, append-nil, map-map}
 use native.Mathlib.Omega.{arith}
 use lib.ListN.{length, getD, take, drop, length-append, length-map, List·getD-append}
 use lib.Seq.{drop-cons, take-add, take-at, getD-drop}
@@ -10,7 +10,7 @@ use Rattle.theory.specs.Schema.{endpoint}
 use Rattle.theory.proofs.Schema.{endpoint-append}
 use Rattle.meaning.specs.Lists.{concatMap}
 use Rattle.meaning.specs.Schema.{Graph, Path, path, target, leaving, edgeLists, allPaths, hasLoop}
-use Rattle.meaning.proofs.PathLevels.{concatMap-same, concatMap-append, map-concatMap, concatMap-map, map-twice, followed, longer, edgeLists-longer}
+use Rattle.meaning.proofs.PathLevels.{concatMap-same, concatMap-append, map-concatMap, concatMap-map, followed, longer, edgeLists-longer}
 use Rattle.meaning.proofs.Lists.{getD-map}
 use Rattle.agreement.proofs.Paths.{pathCount, pathAt}
 use Rattle.schema.specs.PathNumbers.{startOf, endOf, firstOf}
@@ -25,7 +25,7 @@ module _ (G : Graph) where
   behind-followed a es =
       ap (λ (n : ℕ). map (λ e. path (startOf G a) ((pathAt G a .edges ++ es) ++ (e ∷ []))) (leaving G n)) (endpoint-append (target G) (startOf G a) (pathAt G a .edges) es)
       ∙ ap (λ (f : ℕ → Path). map f (leaving G (endpoint (target G) (endOf G a) es))) (fun-ext (λ e. ap (path (startOf G a)) (append-assoc (pathAt G a .edges) es (e ∷ []))))
-      ∙ sym (map-twice (behind a) (λ e. es ++ (e ∷ [])) (leaving G (endpoint (target G) (endOf G a) es)))
+      ∙ sym (map-map (behind a) (λ e. es ++ (e ∷ [])) (leaving G (endpoint (target G) (endOf G a) es)))
 
   block-longer : (a k : ℕ) → concatMap (followed G) (map (behind a) (edgeLists G k (endOf G a))) ≡ map (behind a) (edgeLists G (suc k) (endOf G a))
   block-longer a k =

@@ -12,8 +12,8 @@ use lib.Dec.{eqb}
 use borrow.Author.Tests.{eqb-true, eqb-false, eq-eqb, ne-eqb, ltb-false}
 use Rattle.meaning.specs.Lists.{range, upto, consIf, concatMap}
 use Rattle.meaning.specs.Schema.{Graph, Path, path, source, leaving, edgeLists, pathsOfLength, allPaths, hasLoop}
-use Rattle.meaning.proofs.Heights.{upto-more, filter-one, append-none}
-use Rattle.meaning.proofs.PathLevels.{concatMap-append, followed, allPaths-longer}
+use Rattle.meaning.proofs.Heights.{upto-more, filter-one}
+use Rattle.meaning.proofs.PathLevels.{concatMap-append, followed, pathsOfLength-longer}
 use Rattle.meaning.proofs.Lists.{getD-map, upto-length, upto-getD}
 use Rattle.agreement.proofs.Paths.{pathCount, pathAt}
 use Rattle.schema.specs.PathNumbers.{firstOf, leavingBelow, rankOf, endOf}
@@ -28,7 +28,7 @@ module _ (G : Graph) (v k : ℕ) where
   below-here e = below-more ∙ rw (eq-eqb (source G k) v e)
 
   pub below-skip : (source G k ≡ v → ⊥) → leavingBelow G v (k + 1) ≡ leavingBelow G v k
-  below-skip e = below-more ∙ rw (ne-eqb (source G k) v e, append-none)
+  below-skip e = below-more ∙ rw (ne-eqb (source G k) v e, append-nil)
 
 -- an edge stands at its rank among those that leave its source
 pub rank-at : (G : Graph) (v e k : ℕ) → e < k → source G e ≡ v → (length (leavingBelow G v e) < length (leavingBelow G v k)) × (getD (leavingBelow G v k) (length (leavingBelow G v e)) 0 ≡ e)
@@ -58,7 +58,7 @@ module _ (G : Graph) (acyclic : hasLoop G ≡ false) where
 
   shifted : (n s : ℕ) → concatMap (pathsOfLength G) (range (suc s) n) ≡ concatMap (followed G) (concatMap (pathsOfLength G) (range s n))
   shifted zero s = refl
-  shifted (suc n) s = rw (concatMap-append (followed G) (pathsOfLength G s) (concatMap (pathsOfLength G) (range (suc s) n)), ← allPaths-longer G s, ← shifted n (suc s))
+  shifted (suc n) s = rw (concatMap-append (followed G) (pathsOfLength G s) (concatMap (pathsOfLength G) (range (suc s) n)), ← pathsOfLength-longer G s, ← shifted n (suc s))
 
   paths-closed : allPaths G ≡ pathsOfLength G 0 ++ concatMap (followed G) (allPaths G)
   paths-closed =

@@ -42,35 +42,35 @@ room-first a b R = record { room = let e = length-append a b in omega (arith, R 
 
 -- ---- a text of which the rest is still to be written
 
-pub record Onward (l₀ : List ℕ) (at₀ : ℕ) (text : List ℕ) (l : List ℕ) (at : ℕ) (rest : List ℕ) : Type 0 where
+pub record Unwritten (l₀ : List ℕ) (at₀ : ℕ) (text : List ℕ) (l : List ℕ) (at : ℕ) (rest : List ℕ) : Type 0 where
   pub room : Room l at rest
   pub long : length l ≡ length l₀
-  pub onward : (r : ℕ) (m : List ℕ) → Appended l at rest r m → Appended l₀ at₀ text r m
+  pub completes : (r : ℕ) (m : List ℕ) → Appended l at rest r m → Appended l₀ at₀ text r m
 
-pub onward-start : {l : List ℕ} {at : ℕ} {text : List ℕ} → Room l at text → Onward l at text l at text
-onward-start R = record { room = R; long = refl; onward = λ r m A. A }
+pub unwritten-start : {l : List ℕ} {at : ℕ} {text : List ℕ} → Room l at text → Unwritten l at text l at text
+unwritten-start R = record { room = R; long = refl; completes = λ r m A. A }
 
 module _ {l₀ : List ℕ} {at₀ : ℕ} {text l : List ℕ} {at : ℕ} where
-  pub onward-room : (a b : List ℕ) → Onward l₀ at₀ text l at (a ++ b) → Room l at a
-  onward-room a b O = room-first a b (O .room)
+  pub unwritten-room : (a b : List ℕ) → Unwritten l₀ at₀ text l at (a ++ b) → Room l at a
+  unwritten-room a b O = room-first a b (O .room)
 
-  pub onward-step : (a b : List ℕ) {r : ℕ} {m : List ℕ} → Onward l₀ at₀ text l at (a ++ b) → Appended l at a r m → Onward l₀ at₀ text m r b
-  onward-step a b O A = record { room = room-then A b (O .room); long = appended-long A ∙ O .long; onward = λ q n B. O .onward q n (appended-then A B) }
+  pub unwritten-step : (a b : List ℕ) {r : ℕ} {m : List ℕ} → Unwritten l₀ at₀ text l at (a ++ b) → Appended l at a r m → Unwritten l₀ at₀ text m r b
+  unwritten-step a b O A = record { room = room-then A b (O .room); long = appended-long A ∙ O .long; completes = λ q n B. O .completes q n (appended-then A B) }
 
-  pub onward-done : Onward l₀ at₀ text l at [] → Appended l₀ at₀ text at l
-  onward-done O = O .onward at l (appended-none l at)
+  pub unwritten-done : Unwritten l₀ at₀ text l at [] → Appended l₀ at₀ text at l
+  unwritten-done O = O .completes at l (appended-none l at)
 
 -- ---- byte after byte
-module _ {l₀ : List ℕ} {at₀ : ℕ} {text l : List ℕ} {at : ℕ} (word : List ℕ) (i : ℕ) (O : Onward l₀ at₀ text l at (drop i word)) where
+module _ {l₀ : List ℕ} {at₀ : ℕ} {text l : List ℕ} {at : ℕ} (word : List ℕ) (i : ℕ) (O : Unwritten l₀ at₀ text l at (drop i word)) where
   module _ (h : i < length word) where
-    next-byte : Onward l₀ at₀ text l at ((getD word i 0 ∷ []) ++ drop (i + 1) word)
+    next-byte : Unwritten l₀ at₀ text l at ((getD word i 0 ∷ []) ++ drop (i + 1) word)
     next-byte = rw (drop-cons word i 0 h, ← add-one i) at O
 
     pub byte-room : at < length l
-    byte-room = let R = onward-room (getD word i 0 ∷ []) (drop (i + 1) word) next-byte in omega (arith, R .room)
+    byte-room = let R = unwritten-room (getD word i 0 ∷ []) (drop (i + 1) word) next-byte in omega (arith, R .room)
 
-    pub byte-step : Onward l₀ at₀ text (set l at (getD word i 0)) (at + 1) (drop (i + 1) word)
-    byte-step = onward-step (getD word i 0 ∷ []) (drop (i + 1) word) next-byte (appended-byte l at (getD word i 0))
+    pub byte-step : Unwritten l₀ at₀ text (set l at (getD word i 0)) (at + 1) (drop (i + 1) word)
+    byte-step = unwritten-step (getD word i 0 ∷ []) (drop (i + 1) word) next-byte (appended-byte l at (getD word i 0))
 
   pub word-done : length word ≤ i → Appended l₀ at₀ text at l
-  word-done h = let e : drop i word ≡ [] = drop-of-length-le word h in onward-done (rw e at O)
+  word-done h = let e : drop i word ≡ [] = drop-of-length-le word h in unwritten-done (rw e at O)

@@ -13,8 +13,9 @@ use Rattle.theory.proofs.Numbering.{tabulate-length, tabulate-getD}
 use Rattle.meaning.specs.Lists.{upto, concatMap, sumOf}
 use Rattle.meaning.specs.Schema as meaning
 use Rattle.meaning.specs.Formats as formats
+use Rattle.meaning.specs.Formats.{maxNodes, maxEdges, maxAttributes, maxRows}
 use Rattle.meaning.specs.Views.{rows}
-use Rattle.meaning.specs.Program.{rowLine, printed}
+use Rattle.meaning.specs.Program.{rowLine, rowLines, printed}
 use Rattle.schema.specs.declared.Schema.{Schema}
 use Rattle.schema.specs.Decoded.{Limits, schemaOf}
 use Rattle.instance.specs.declared.Instance.{Instance}
@@ -32,12 +33,12 @@ own-same false e = refl
 -- n columns: the table of column k is home k, and it has a row for each of that table
 module _ (n : ℕ) (home counts cells : List ℕ) (long : n ≤ length home) (d r : ℕ) (in-table : r < getD counts d 0) where
   abbrev columns : List (List ℕ)
-  columns = tabulate n (λ k. tabulate (getD counts (getD home k 0) 0) (λ i. getD cells (512 * k + i) 0))
+  columns = tabulate n (λ k. tabulate (getD counts (getD home k 0) 0) (λ i. getD cells (maxRows * k + i) 0))
 
-  cell-at : (k : ℕ) → k < n → getD home k 0 ≡ d → getD (getD columns k []) r 0 ≡ getD cells (512 * k + r) 0
+  cell-at : (k : ℕ) → k < n → getD home k 0 ≡ d → getD (getD columns k []) r 0 ≡ getD cells (maxRows * k + r) 0
   cell-at k h e =
-      ap (λ (l : List ℕ). getD l r 0) (tabulate-getD n (λ j. tabulate (getD counts (getD home j 0) 0) (λ i. getD cells (512 * j + i) 0)) [] k h)
-      ∙ tabulate-getD (getD counts (getD home k 0) 0) (λ i. getD cells (512 * k + i) 0) 0 r (rw e in-table)
+      ap (λ (l : List ℕ). getD l r 0) (tabulate-getD n (λ j. tabulate (getD counts (getD home j 0) 0) (λ i. getD cells (maxRows * j + i) 0)) [] k h)
+      ∙ tabulate-getD (getD counts (getD home k 0) 0) (λ i. getD cells (maxRows * k + i) 0) 0 r (rw e in-table)
 
   columns-text : (node : ℕ → ℕ) → ((k : ℕ) → k < n → node k ≡ getD home k 0) → concatMap (λ k. partIf (eqb (node k) d) (getD (getD columns k []) r 0)) (upto n) ≡ cellsText (take n home) cells d r
   unfolding cellsText
@@ -73,9 +74,9 @@ attributes-long t = tabulate-length (t .attributes) (λ k. record { node = getD 
 -- the arrays of the structs have the lengths of their types
 pub record Sized (t : Schema) (i : Instance) : Type 0 where
   pub limits : Limits t
-  pub source : length (t .graph .source) ≡ 32
-  pub node : length (t .node) ≡ 16
-  pub counts : length (i .counts) ≡ 16
+  pub source : length (t .graph .source) ≡ maxEdges
+  pub node : length (t .node) ≡ maxAttributes
+  pub counts : length (i .counts) ≡ maxNodes
 
 module _ {t : Schema} {i : Instance} (Z : Sized t i) where
   pub edges-within : t .graph .edges ≤ length (t .graph .source)
@@ -124,10 +125,7 @@ module _ (t : Schema) (i : Instance) (links values : List ℕ) (Z : Sized t i) w
       ∙ pieces-same (rowLine S J d) (rowText (sourceOf t) links (nodeOf t) values d) 0 (getD (i .counts) d 0) (λ r l. row-same d r (omega arith))
       ∙ ap (λ (n : ℕ). concatMap (rowText (sourceOf t) links (nodeOf t) values d) (upto n)) (sym (getD-take (t .graph .nodes) (i .counts) d 0 h))
 
-  abbrev allTables : List ℕ
-  allTables = concatMap (λ d. concatMap (rowLine S J d) (rows J d)) (upto (t .graph .nodes))
-
-  tables-same : allTables ≡ rowsText t i links values
+  tables-same : rowLines S J ≡ rowsText t i links values
   unfolding tablesText
   tables-same =
       pieces-same (λ d. concatMap (rowLine S J d) (rows J d)) (λ d. tableText (sourceOf t) links (nodeOf t) values d (getD (countsOf t i) d 0)) 0 (t .graph .nodes) (λ d l. table-same d (omega arith))
@@ -135,5 +133,5 @@ module _ (t : Schema) (i : Instance) (links values : List ℕ) (Z : Sized t i) w
 
   pub printed-same : printed (record { schema = S; tables = J }) ≡ headerText (t .graph .nodes) (sumOf (J .counts)) ++ rowsText t i links values
   printed-same =
-      ap (λ (w : List ℕ). w ++ allTables) (header-line (t .graph .nodes) (sumOf (J .counts)))
+      ap (λ (w : List ℕ). w ++ rowLines S J) (header-line (t .graph .nodes) (sumOf (J .counts)))
       ∙ ap (λ (w : List ℕ). headerText (t .graph .nodes) (sumOf (J .counts)) ++ w) tables-same

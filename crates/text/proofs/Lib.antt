@@ -1,3 +1,4 @@
+-- Laws of the framing and of text written piece after piece.
 pub mod SheetParts
 pub mod Appending
 pub mod Series

@@ -5,6 +5,7 @@ use mathlib.Core.Bool.{Bool, true, false}
 use mathlib.Core.List.{List, [], _∷_, _++_}
 use native.Mathlib.Omega.{arith}
 use lib.ListN.{length, set}
+use Rattle.meaning.specs.Program.{space, newline}
 use Rattle.text.specs.Appended.{Room, Appended, digits, part, lineOf}
 use Rattle.text.specs.Rows.{partIf}
 use Rattle.text.proofs.Appending.{appended-byte, appended-then, appended-long, room-first, room-then}
@@ -14,15 +15,15 @@ use Rattle.text.proofs.Appending.{appended-byte, appended-then, appende
 module _ {l : List ℕ} {at : ℕ} (n : ℕ) where
   pub space-room : Room l at (part n) → at < length l
   unfolding part
-  space-room R = omega (arith, room-first (32 ∷ []) (digits n) R .room)
+  space-room R = omega (arith, room-first (space ∷ []) (digits n) R .room)
 
-  pub number-room : Room l at (part n) → Room (set l at 32) (at + 1) (digits n)
+  pub number-room : Room l at (part n) → Room (set l at space) (at + 1) (digits n)
   unfolding part
-  number-room R = room-then (appended-byte l at 32) (digits n) R
+  number-room R = room-then (appended-byte l at space) (digits n) R
 
-  pub part-written : {r : ℕ} {m : List ℕ} → Appended (set l at 32) (at + 1) (digits n) r m → Appended l at (part n) r m
+  pub part-written : {r : ℕ} {m : List ℕ} → Appended (set l at space) (at + 1) (digits n) r m → Appended l at (part n) r m
   unfolding part
-  part-written A = appended-then (appended-byte l at 32) A
+  part-written A = appended-then (appended-byte l at space) A
 
 -- ---- the same, where it is the row's own
 
@@ -41,11 +42,11 @@ module _ {own : Bool} (n : ℕ) where
 pub record LineEnds (l : List ℕ) (at : ℕ) (line : List ℕ) (s : ℕ) (k : List ℕ) : Type 0 where
   pub room : s < length k
   pub long : length k ≡ length l
-  pub written : Appended l at line (s + 1) (set k s 10)
+  pub written : Appended l at line (s + 1) (set k s newline)
 
 module _ {l : List ℕ} {at : ℕ} (a b c d : List ℕ) (R : Room l at (lineOf a b c d)) where
   abbrev fromFourth : List ℕ
-  fromFourth = d ++ (10 ∷ [])
+  fromFourth = d ++ (newline ∷ [])
 
   abbrev fromThird : List ℕ
   fromThird = c ++ fromFourth
@@ -79,12 +80,12 @@ module _ {l : List ℕ} {at : ℕ} (a b c d : List ℕ) (R : Room l at (lineOf a
         from-fourth = room-then C fromFourth from-third
 
         pub fourth-room : Room o r d
-        fourth-room = room-first d (10 ∷ []) from-fourth
+        fourth-room = room-first d (newline ∷ []) from-fourth
 
         pub line-ends : {s : ℕ} {k : List ℕ} → Appended o r d s k → LineEnds l at (lineOf a b c d) s k
         unfolding lineOf
         line-ends {s} {k} D = record {
-          room = omega (arith, room-then D (10 ∷ []) from-fourth .room);
+          room = omega (arith, room-then D (newline ∷ []) from-fourth .room);
           long = appended-long D ∙ appended-long C ∙ appended-long B ∙ appended-long A;
-          written = appended-then A (appended-then B (appended-then C (appended-then D (appended-byte k s 10))));
+          written = appended-then A (appended-then B (appended-then C (appended-then D (appended-byte k s newline))));
         }

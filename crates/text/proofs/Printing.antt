@@ -11,17 +11,13 @@ use Rattle.meaning.specs.Schema.{Schema, source, attributeAt, leaving}
 use Rattle.meaning.specs.Formats.{Instance}
 use Rattle.meaning.specs.Views.{link, value}
 use Rattle.meaning.specs.Evenness.{attributesAt}
-use Rattle.meaning.specs.Program.{decimal, line, wordTables, wordRows, rowLine, shown}
+use Rattle.meaning.specs.Program.{codes, newline, space, decimal, line, rowLine, shown}
 use Rattle.meaning.specs.Calls.{refused}
+use Rattle.meaning.proofs.PathLevels.{concatMap-append}
 use Rattle.text.specs.Appended.{digits, part, lineOf, headerText, refusalText}
 use Rattle.text.specs.Rows.{partIf}
 
 -- ---- lists of pieces
-
-module _ {A : Type 0} where
-  pieces-append : (f : A → List ℕ) (l m : List A) → concatMap f (l ++ m) ≡ concatMap f l ++ concatMap f m
-  pieces-append f [] m = refl
-  pieces-append f (x ∷ l) m = rw (pieces-append f l m, append-assoc)
 
 pub pieces-same : (f g : ℕ → List ℕ) (k n : ℕ) → ((i : ℕ) → i < k + n → f i ≡ g i) → concatMap f (range k n) ≡ concatMap g (range k n)
 pieces-same f g k zero h = refl
@@ -29,12 +25,12 @@ pieces-same f g k (suc n) h = rw (h k (omega arith), pieces-same f g (suc k) n (
 
 -- ---- a line
 
-line-pieces : (w : List ℕ) (ns : List ℕ) → line (w ∷ map decimal ns) ≡ w ++ (concatMap part ns ++ (10 ∷ []))
+line-pieces : (w : List ℕ) (ns : List ℕ) → line (w ∷ map decimal ns) ≡ w ++ (concatMap part ns ++ (newline ∷ []))
 unfolding part digits
 line-pieces w [] = refl
-line-pieces w (n ∷ ns) = ap (λ (l : List ℕ). w ++ (32 ∷ l)) (line-pieces (decimal n) ns ∙ sym (append-assoc (decimal n) (concatMap part ns) (10 ∷ [])))
+line-pieces w (n ∷ ns) = ap (λ (l : List ℕ). w ++ (space ∷ l)) (line-pieces (decimal n) ns ∙ sym (append-assoc (decimal n) (concatMap part ns) (newline ∷ [])))
 
-pub header-line : (tables rows : ℕ) → line (wordTables ∷ decimal tables ∷ wordRows ∷ decimal rows ∷ []) ≡ headerText tables rows
+pub header-line : (tables rows : ℕ) → line (codes "tables" ∷ decimal tables ∷ codes "rows" ∷ decimal rows ∷ []) ≡ headerText tables rows
 unfolding lineOf part digits
 header-line tables rows = refl
 
@@ -74,7 +70,7 @@ module _ (T : Schema) (J : Instance) (d r : ℕ) where
       let ls = map (λ e. link J e r) (leaving (T .graph) d) in
       let vs = map (λ b. value J b r) (attributesAt T d) in
       line-pieces (decimal d) (r ∷ (ls ++ vs))
-      ∙ ap (λ (l : List ℕ). decimal d ++ ((part r ++ l) ++ (10 ∷ []))) (pieces-append part ls vs)
-      ∙ ap (λ (l : List ℕ). decimal d ++ ((part r ++ (l ++ concatMap part vs)) ++ (10 ∷ []))) (passing-pieces (λ e. eqb (source (T .graph) e) d) (λ e. link J e r) (upto (length (T .graph .edges))))
-      ∙ ap (λ (l : List ℕ). decimal d ++ ((part r ++ (linkPieces ++ l)) ++ (10 ∷ []))) (passing-pieces (λ b. eqb (attributeAt T b .node) d) (λ b. value J b r) (upto (length (T .attributes))))
-      ∙ ap (λ (l : List ℕ). decimal d ++ l) (append-assoc (part r) (linkPieces ++ valuePieces) (10 ∷ []) ∙ ap (λ (l : List ℕ). part r ++ l) (append-assoc linkPieces valuePieces (10 ∷ [])))
+      ∙ ap (λ (l : List ℕ). decimal d ++ ((part r ++ l) ++ (newline ∷ []))) (concatMap-append part ls vs)
+      ∙ ap (λ (l : List ℕ). decimal d ++ ((part r ++ (l ++ concatMap part vs)) ++ (newline ∷ []))) (passing-pieces (λ e. eqb (source (T .graph) e) d) (λ e. link J e r) (upto (length (T .graph .edges))))
+      ∙ ap (λ (l : List ℕ). decimal d ++ ((part r ++ (linkPieces ++ l)) ++ (newline ∷ []))) (passing-pieces (λ b. eqb (attributeAt T b .node) d) (λ b. value J b r) (upto (length (T .attributes))))
+      ∙ ap (λ (l : List ℕ). decimal d ++ l) (append-assoc (part r) (linkPieces ++ valuePieces) (newline ∷ []) ∙ ap (λ (l : List ℕ). part r ++ l) (append-assoc linkPieces valuePieces (newline ∷ [])))

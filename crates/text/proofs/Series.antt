@@ -5,7 +5,7 @@ use mathlib.Core.List.{List, [], _++_}
 use native.Mathlib.Omega.{arith}
 use Rattle.meaning.specs.Lists.{range, upto, concatMap}
 use Rattle.text.specs.Appended.{Room, Appended}
-use Rattle.text.proofs.Appending.{Onward, onward-start, onward-room, onward-step, onward-done}
+use Rattle.text.proofs.Appending.{Unwritten, unwritten-start, unwritten-room, unwritten-step, unwritten-done}
 
 module _ (f : ℕ → List ℕ) (n : ℕ) where
   -- the texts from k on
@@ -25,23 +25,23 @@ module _ (f : ℕ → List ℕ) (n : ℕ) where
   texts-done k h = let e : n - k ≡ 0 = omega arith in rw e
 
 -- the first k texts are written
-pub record Going (f : ℕ → List ℕ) (n : ℕ) (l₀ : List ℕ) (at₀ : ℕ) (l : List ℕ) (at k : ℕ) : Type 0 where
+pub record SeriesWritten (f : ℕ → List ℕ) (n : ℕ) (l₀ : List ℕ) (at₀ : ℕ) (l : List ℕ) (at k : ℕ) : Type 0 where
   pub some : k ≤ n
-  pub left : Onward l₀ at₀ (concatMap f (upto n)) l at (textsFrom f n k)
+  pub left : Unwritten l₀ at₀ (concatMap f (upto n)) l at (textsFrom f n k)
 
-pub going-start : (f : ℕ → List ℕ) (n : ℕ) {l : List ℕ} {at : ℕ} → Room l at (concatMap f (upto n)) → Going f n l at l at 0
-going-start f n R = record { some = omega arith; left = rw (texts-start f n) (onward-start R) }
+pub series-start : (f : ℕ → List ℕ) (n : ℕ) {l : List ℕ} {at : ℕ} → Room l at (concatMap f (upto n)) → SeriesWritten f n l at l at 0
+series-start f n R = record { some = omega arith; left = rw (texts-start f n) (unwritten-start R) }
 
-module _ {f : ℕ → List ℕ} {n : ℕ} {l₀ : List ℕ} {at₀ : ℕ} {l : List ℕ} {at k : ℕ} (G : Going f n l₀ at₀ l at k) where
+module _ {f : ℕ → List ℕ} {n : ℕ} {l₀ : List ℕ} {at₀ : ℕ} {l : List ℕ} {at k : ℕ} (G : SeriesWritten f n l₀ at₀ l at k) where
   module _ (h : k < n) where
-    next-text : Onward l₀ at₀ (concatMap f (upto n)) l at (f k ++ textsFrom f n (k + 1))
+    next-text : Unwritten l₀ at₀ (concatMap f (upto n)) l at (f k ++ textsFrom f n (k + 1))
     next-text = rw (texts-more f n k h) at (G .left)
 
-    pub going-room : Room l at (f k)
-    going-room = onward-room (f k) (textsFrom f n (k + 1)) next-text
+    pub series-room : Room l at (f k)
+    series-room = unwritten-room (f k) (textsFrom f n (k + 1)) next-text
 
-    pub going-step : {r : ℕ} {m : List ℕ} → Appended l at (f k) r m → Going f n l₀ at₀ m r (k + 1)
-    going-step A = record { some = omega arith; left = onward-step (f k) (textsFrom f n (k + 1)) next-text A }
+    pub series-step : {r : ℕ} {m : List ℕ} → Appended l at (f k) r m → SeriesWritten f n l₀ at₀ m r (k + 1)
+    series-step A = record { some = omega arith; left = unwritten-step (f k) (textsFrom f n (k + 1)) next-text A }
 
-  pub going-done : n ≤ k → Appended l₀ at₀ (concatMap f (upto n)) at l
-  going-done h = onward-done (rw (texts-done f n k h) at (G .left))
+  pub series-done : n ≤ k → Appended l₀ at₀ (concatMap f (upto n)) at l
+  series-done h = unwritten-done (rw (texts-done f n k h) at (G .left))

@@ -1,14 +1,15 @@
 -- Laws of the framing: the byte length at a position, and the sheet after it.
 use Prim.Native.Nat.{ℕ, _+_, _-_, _*_, _≤_, _<_}
-use mathlib.Core.Path.{_≡_, refl, sym, ap, _∙_}
+use mathlib.Core.Path.{_≡_, refl, ap, _∙_}
 use mathlib.Core.List.{List, [], _∷_}
 use native.Mathlib.Omega.{arith}
 use native.Mathlib.Nat.{add-zero}
 use lib.ListN.{length, getD, drop, length-drop, drop-of-length-le}
 use lib.Seq.{drop-drop, getD-drop, take-all, take-nil, drop-nil}
-use Rattle.meaning.specs.Program.{announced, firstSheet, laterSheets, shown}
+use Rattle.meaning.specs.Program.{announced, firstSheet, laterSheets, shown, push}
 use Rattle.meaning.specs.Calls.{sigmaTables}
 use Rattle.text.specs.declared.framing.Part.{Part}
+use Rattle.text.specs.declared.framing.Sheets.{Sheets}
 use Rattle.text.specs.Framed.{partOf, SheetFound, SheetsFound}
 
 -- ---- the byte length at the front
@@ -78,10 +79,12 @@ module _ (input : List ℕ) {s t f i : Part} (S : SheetFound input 0 s) (T : She
     t-lies = T .lies;
     mapping-lies = F .lies;
     run-lies = I .lies;
-    says = sym (
-        ap (λ (x : List ℕ). shown (sigmaTables x (partOf input t) (partOf input f) (partOf input i))) (S .sheet)
-        ∙ ap (λ (x : List ℕ). shown (sigmaTables (firstSheet input) x (partOf input f) (partOf input i))) (T .sheet ∙ ap firstSheet (S .later))
-        ∙ ap (λ (x : List ℕ). shown (sigmaTables (firstSheet input) (firstSheet (laterSheets input)) x (partOf input i))) (F .sheet ∙ ap firstSheet later-two)
-        ∙ ap (λ (x : List ℕ). shown (sigmaTables (firstSheet input) (firstSheet (laterSheets input)) (firstSheet (laterSheets (laterSheets input))) x)) (I .sheet ∙ ap firstSheet later-three)
-        );
+    s-is = S .sheet;
+    t-is = T .sheet ∙ ap firstSheet (S .later);
+    mapping-is = F .sheet ∙ ap firstSheet later-two;
+    run-is = I .sheet ∙ ap firstSheet later-three;
   }
+
+-- what `push` prints is the text of these four sheets
+pub sheets-pushed : {input : List ℕ} {r : Sheets} → SheetsFound input r → push input ≡ shown (sigmaTables (partOf input (r .s)) (partOf input (r .t)) (partOf input (r .mapping)) (partOf input (r .run)))
+sheets-pushed F = rw (F .s-is, F .t-is, F .mapping-is, F .run-is)

@@ -7,11 +7,11 @@ use native.Mathlib.Omega.{arith}
 use native.Mathlib.Nat.{mul-suc, mul-add, le-trans, le-of-eq}
 use lib.ListN.{length, getD, drop, length-append}
 use lib.Dec.{eqb}
-use Rattle.meaning.specs.Lists.{range, upto, concatMap, sumOf}
+use Rattle.meaning.specs.Lists.{range, concatMap, sumOf}
 use Rattle.meaning.specs.Schema.{Schema, source, attributeAt}
-use Rattle.meaning.specs.Formats.{Instance}
+use Rattle.meaning.specs.Formats.{Instance, maxNodes, maxEdges, maxAttributes, maxRows}
 use Rattle.meaning.specs.Views.{count, rows, link, value}
-use Rattle.meaning.specs.Program.{wordTables, wordRows, wordRefused, rowLine, printed}
+use Rattle.meaning.specs.Program.{codes, space, newline, rowLine, rowLines, printed}
 use Rattle.meaning.proofs.Lists.{getD-sum}
 use Rattle.text.specs.Appended.{digits, part, lineOf, headerText, refusalText}
 use Rattle.text.specs.Rows.{partIf}
@@ -54,23 +54,23 @@ partIf-length false n = omega arith
 line-length : (a b c d : List ℕ) → length (lineOf a b c d) ≡ length a + length b + length c + length d + 1
 unfolding lineOf
 line-length a b c d =
-    let u = length-append a (b ++ (c ++ (d ++ (10 ∷ [])))) in
-    let v = length-append b (c ++ (d ++ (10 ∷ []))) in
-    let w = length-append c (d ++ (10 ∷ [])) in
-    omega (arith, length-append d (10 ∷ []))
+    let u = length-append a (b ++ (c ++ (d ++ (newline ∷ [])))) in
+    let v = length-append b (c ++ (d ++ (newline ∷ []))) in
+    let w = length-append c (d ++ (newline ∷ [])) in
+    omega (arith, length-append d (newline ∷ []))
 
 pub refusal-length : (number place : ℕ) → length (refusalText number place) ≤ 30
 refusal-length number place =
-    omega (arith, line-length wordRefused (part number) (part place) [], part-length number, part-length place, digits-few number, digits-few place)
+    omega (arith, line-length (codes "refused") (part number) (part place) [], part-length number, part-length place, digits-few number, digits-few place)
 
 header-length : (tables rows : ℕ) → tables < 100 → rows < 1000 → length (headerText tables rows) ≤ 19
 header-length tables rows t r =
-    omega (arith, line-length wordTables (part tables) (32 ∷ wordRows) (part rows), part-length tables, part-length rows, digits-length 1 tables t, digits-length 2 rows r)
+    omega (arith, line-length (codes "tables") (part tables) (space ∷ codes "rows") (part rows), part-length tables, part-length rows, digits-length 1 tables t, digits-length 2 rows r)
 
 -- ---- the whole text
 
-module _ (T : Schema) (J : Instance) (nodes : T .graph .nodes ≤ 16) (edges : length (T .graph .edges) ≤ 32) (attributes : length (T .attributes) ≤ 16)
-    (few : sumOf (J .counts) ≤ 512) (targets : (e : ℕ) → e < length (T .graph .edges) → (r : ℕ) → link J e r < 512) where
+module _ (T : Schema) (J : Instance) (nodes : T .graph .nodes ≤ maxNodes) (edges : length (T .graph .edges) ≤ maxEdges) (attributes : length (T .attributes) ≤ maxAttributes)
+    (few : sumOf (J .counts) ≤ maxRows) (targets : (e : ℕ) → e < length (T .graph .edges) → (r : ℕ) → link J e r < maxRows) where
   module _ (d r : ℕ) where
     links-length : length (linkPieces T J d r) ≤ 4 * length (T .graph .edges)
     links-length =
@@ -82,21 +82,18 @@ module _ (T : Schema) (J : Instance) (nodes : T .graph .nodes ≤ 16) (edges : l
         pieces-length (valuePiece T J d r) 11 0 (length (T .attributes))
         (λ b l. le-trans (partIf-length (eqb (attributeAt T b .node) d) (value J b r)) (omega (arith, digits-few (value J b r))))
 
-    row-length : d < 16 → r < 512 → length (rowLine T J d r) ≤ 311
+    row-length : d < maxNodes → r < maxRows → length (rowLine T J d r) ≤ 311
     row-length h l =
         let e = line-length (digits d) (part r) (linkPieces T J d r) (valuePieces T J d r) in
         le-trans (le-of-eq (ap length (row-pieces T J d r)))
         (omega (arith, e, part-length r, digits-length 1 d (omega arith), digits-length 2 r (omega arith), links-length, values-length))
 
-  table-length : (d : ℕ) → d < 16 → length (concatMap (rowLine T J d) (rows J d)) ≤ 311 * count J d
+  table-length : (d : ℕ) → d < maxNodes → length (concatMap (rowLine T J d) (rows J d)) ≤ 311 * count J d
   table-length d h = pieces-length (rowLine T J d) 311 0 (count J d) (λ r l. row-length d r h (omega (arith, getD-sum (J .counts) d)))
-
-  abbrev allTables : List ℕ
-  allTables = concatMap (λ d. concatMap (rowLine T J d) (rows J d)) (upto (T .graph .nodes))
 
   pub printed-length : length (printed (record { schema = T; tables = J })) ≤ maxTextBytes
   printed-length =
       let h = header-length (T .graph .nodes) (sumOf (J .counts)) (omega arith) (omega arith) in
       let t = tables-length (λ d. concatMap (rowLine T J d) (rows J d)) 311 (J .counts) 0 (T .graph .nodes) (λ d l. table-length d (omega arith)) in
-      le-trans (le-of-eq (ap (λ (w : List ℕ). length (w ++ allTables)) (header-line (T .graph .nodes) (sumOf (J .counts)))))
-      (omega (arith, length-append (headerText (T .graph .nodes) (sumOf (J .counts))) allTables))
+      le-trans (le-of-eq (ap (λ (w : List ℕ). length (w ++ rowLines T J)) (header-line (T .graph .nodes) (sumOf (J .counts)))))
+      (omega (arith, length-append (headerText (T .graph .nodes) (sumOf (J .counts))) (rowLines T J)))

@@ -8,6 +8,7 @@ use lib.ListN.{length, getD, drop}
 use lib.Seq.{sets-eq, getD-take}
 use Rattle.theory.proofs.Numbering.{tabulate-getD}
 use Rattle.meaning.specs.Lists.{sumOf}
+use Rattle.meaning.specs.Formats.{maxNodes, maxRows}
 use Rattle.meaning.specs.Calls.{refused}
 use Rattle.meaning.specs.Program.{printed, shown}
 use Rattle.meaning.proofs.Lists.{getD-sum}
@@ -43,10 +44,10 @@ module _ {l : List ℕ} (long : maxTextBytes ≤ length l) (number place : ℕ) 
 module _ (t : Schema) (i : Instance) (links values : List ℕ) (Z : Sized t i) (P : Printable t i links values) where
   -- ---- what the arrays hold
 
-  pub tables-few : length (countsOf t i) ≤ 16
+  pub tables-few : length (countsOf t i) ≤ maxNodes
   tables-few = omega (arith, counts-long Z, P .limits .nodes)
 
-  pub rows-few : (d : ℕ) → d < length (countsOf t i) → getD (countsOf t i) d 0 ≤ 512
+  pub rows-few : (d : ℕ) → d < length (countsOf t i) → getD (countsOf t i) d 0 ≤ maxRows
   rows-few d h =
       let n : d < t .graph .nodes = omega (arith, counts-long Z) in
       let a : getD (countsOf t i) d 0 ≡ getD (i .counts) d 0 = getD-take (t .graph .nodes) (i .counts) d 0 n in

@@ -4,7 +4,7 @@ use mathlib.Core.Path.{_≡_}
 use mathlib.Core.List.{List, [], _∷_, _++_}
 use lib.ListN.{length}
 use lib.Seq.{sets}
-use Rattle.meaning.specs.Program.{decimal, wordTables, wordRows, wordRefused}
+use Rattle.meaning.specs.Program.{codes, space, newline, decimal}
 
 -- a buffer has room for a text from a position on
 pub record Room (l : List ℕ) (at : ℕ) (text : List ℕ) : Type 0 where
@@ -22,15 +22,15 @@ digits n = decimal n
 
 -- a part of a line behind another
 unfoldable pub part : ℕ → List ℕ
-part n = 32 ∷ digits n
+part n = space ∷ digits n
 
 -- four pieces and a newline
 unfoldable pub lineOf : List ℕ → List ℕ → List ℕ → List ℕ → List ℕ
-lineOf a b c d = a ++ (b ++ (c ++ (d ++ (10 ∷ []))))
+lineOf a b c d = a ++ (b ++ (c ++ (d ++ (newline ∷ []))))
 
 -- the first line of an accepted result, and the line of a refusal
 abbrev pub headerText : ℕ → ℕ → List ℕ
-headerText tables rows = lineOf wordTables (part tables) (32 ∷ wordRows) (part rows)
+headerText tables rows = lineOf (codes "tables") (part tables) (space ∷ codes "rows") (part rows)
 
 abbrev pub refusalText : ℕ → ℕ → List ℕ
-refusalText number place = lineOf wordRefused (part number) (part place) []
+refusalText number place = lineOf (codes "refused") (part number) (part place) []

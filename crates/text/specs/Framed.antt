@@ -3,8 +3,7 @@ use Prim.Native.Nat.{ℕ, _-_, _≤_}
 use mathlib.Core.Path.{_≡_}
 use mathlib.Core.List.{List}
 use lib.ListN.{length, take, drop}
-use Rattle.meaning.specs.Program.{firstSheet, laterSheets, push, shown}
-use Rattle.meaning.specs.Calls.{sigmaTables}
+use Rattle.meaning.specs.Program.{firstSheet, laterSheets}
 use Rattle.text.specs.declared.framing.Part.{Part}
 use Rattle.text.specs.declared.framing.Sheets.{Sheets}
 
@@ -13,19 +12,23 @@ abbrev pub partOf : List ℕ → Part → List ℕ
 partOf input p = take (p .end - p .start) (drop (p .start) input)
 
 -- the bounds under which a part can be lent
-pub record Lies (input : List ℕ) (p : Part) : Type 0 where
+pub record LiesIn (input : List ℕ) (p : Part) : Type 0 where
   pub ordered : p .start ≤ p .end
   pub inside : p .end ≤ length input
 
 -- p is the first sheet of the input from a position on, and later sheets follow it
 pub record SheetFound (input : List ℕ) (at : ℕ) (p : Part) : Type 0 where
-  pub lies : Lies input p
+  pub lies : LiesIn input p
   pub sheet : partOf input p ≡ firstSheet (drop at input)
   pub later : drop (p .end) input ≡ laterSheets (drop at input)
 
+-- the parts are the first four sheets of the input: S, T, mapping and run
 pub record SheetsFound (input : List ℕ) (r : Sheets) : Type 0 where
-  pub s-lies : Lies input (r .s)
-  pub t-lies : Lies input (r .t)
-  pub mapping-lies : Lies input (r .mapping)
-  pub run-lies : Lies input (r .run)
-  pub says : push input ≡ shown (sigmaTables (partOf input (r .s)) (partOf input (r .t)) (partOf input (r .mapping)) (partOf input (r .run)))
+  pub s-lies : LiesIn input (r .s)
+  pub t-lies : LiesIn input (r .t)
+  pub mapping-lies : LiesIn input (r .mapping)
+  pub run-lies : LiesIn input (r .run)
+  pub s-is : partOf input (r .s) ≡ firstSheet input
+  pub t-is : partOf input (r .t) ≡ firstSheet (laterSheets input)
+  pub mapping-is : partOf input (r .mapping) ≡ firstSheet (laterSheets (laterSheets input))
+  pub run-is : partOf input (r .run) ≡ firstSheet (laterSheets (laterSheets (laterSheets input)))

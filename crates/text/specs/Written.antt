@@ -4,6 +4,7 @@ use mathlib.Core.Path.{_≡_}
 use mathlib.Core.List.{List, _++_}
 use lib.ListN.{length, drop}
 use Rattle.meaning.specs.Lists.{sumOf}
+use Rattle.meaning.specs.Formats.{maxRows}
 use Rattle.meaning.specs.Views.{link}
 use Rattle.meaning.specs.Calls.{Migrated}
 use Rattle.schema.specs.declared.Schema.{Schema}
@@ -13,7 +14,7 @@ use Rattle.instance.specs.Decoded as instance
 use Rattle.instance.specs.Decoded.{tablesOf}
 use Rattle.text.specs.declared.Text.{Text}
 
--- no text is longer: a first line of 19 bytes, and 512 lines of 311
+-- no text is longer: a first line of 19 bytes, and a line of 311 for each row
 abbrev pub maxTextBytes : ℕ
 maxTextBytes = 159251
 
@@ -25,9 +26,9 @@ pub record Written (text old : List ℕ) (r : Text) (new : List ℕ) : Type 0 wh
 abbrev pub migratedOf : Schema → Instance → List ℕ → List ℕ → Migrated
 migratedOf t i links values = record { schema = schemaOf t; tables = tablesOf t i links values }
 
--- tables of an accepted instance: at most 512 rows, and links below 512
+-- tables of an accepted instance: links and rows within the limit of rows
 pub record Printable (t : Schema) (i : Instance) (links values : List ℕ) : Type 0 where
   pub limits : Limits t
   pub room : instance.Room links values
-  pub rows : sumOf (tablesOf t i links values .counts) ≤ 512
-  pub targets : (e : ℕ) → e < t .graph .edges → (r : ℕ) → link (tablesOf t i links values) e r < 512
+  pub rows : sumOf (tablesOf t i links values .counts) ≤ maxRows
+  pub targets : (e : ℕ) → e < t .graph .edges → (r : ℕ) → link (tablesOf t i links values) e r < maxRows

@@ -1,14 +1,15 @@
 // Numbers in decimal.
 ghost use mathlib.Core.Path.{_≡_};
-ghost use Prim.Native.Nat.{_+_, _<_};
+ghost use Prim.Native.Nat.{_<_};
+ghost use Rattle.meaning.specs.Program as program;
 ghost use Rattle.text.specs.Appended.{Room, Appended, digits};
 
 // The digit of a number below 10.
 fn digit(n: u32) -> u8
     requires { ⌜ n < 10 ⌝ }
-    ensures { λ r. ⌜ r ≡ 48 + n ⌝ }
+    ensures { λ r. ⌜ r ≡ program.digit n ⌝ }
 {
-    48 + n as u8
+    b'0' + n as u8
 }
 
 // Writes a number from a position on, and yields where it ends.

@@ -4,7 +4,7 @@ ghost use mathlib.Core.Path.{_≡_};
 ghost use Prim.Native.Nat.{_+_, _≤_};
 ghost use lib.ListN.{length, drop};
 ghost use Rattle.meaning.specs.Program.{announced};
-ghost use Rattle.text.specs.Framed.{Lies, partOf, SheetFound, SheetsFound};
+ghost use Rattle.text.specs.Framed.{LiesIn, partOf, SheetFound, SheetsFound};
 
 // The bytes from start up to, not including, end.
 pub struct Part {
@@ -14,7 +14,7 @@ pub struct Part {
 
 // The bytes of a part.
 pub fn bytes_of<'a>(input: &'a [u8], p: Part) -> &'a [u8]
-    requires { ⌜ Lies (now input) p ⌝ }
+    requires { ⌜ LiesIn (now input) p ⌝ }
     ensures { λ r. ⌜ now r ≡ partOf (now (input .entry)) p ⌝ }
 {
     let start = p.start;

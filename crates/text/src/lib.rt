@@ -19,7 +19,7 @@ pub struct Text {
 }
 
 impl Text {
-    // No text is longer: a first line of 19 bytes, and 512 lines of 311.
+    // No text is longer: a first line of 19 bytes, and a line of 311 for each of 512 rows.
     pub const BYTES: usize = 159251;
 }
 

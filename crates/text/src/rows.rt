@@ -1,8 +1,10 @@
 // The lines of rows: table, row, link targets, values.
 use crate::decimal::put_decimal;
 use crate::lines::put_part;
+use instance::Instance;
 ghost use Prim.Native.Nat.{ℕ, _*_, _≤_, _<_};
 ghost use lib.ListN.{length, getD};
+ghost use Rattle.meaning.specs.Formats.{maxNodes, maxRows};
 ghost use Rattle.text.specs.Appended.{Room, Appended};
 ghost use Rattle.text.specs.Rows.{partIf, cellsText, rowText, tableText, tablesText, ColumnsFit};
 
@@ -26,14 +28,14 @@ fn put_cells(
     table: usize,
     row: usize,
 ) -> usize
-    requires { ⌜ Room (now out) at (cellsText (now home) (now cells) table row) × (512 * length (now home) ≤ length (now cells)) × (row < 512) ⌝ }
+    requires { ⌜ Room (now out) at (cellsText (now home) (now cells) table row) × (maxRows * length (now home) ≤ length (now cells)) × (row < maxRows) ⌝ }
     ensures { λ r. ⌜ Appended (now (out .entry)) at (cellsText (now (home .entry)) (now (cells .entry)) table row) r (now (out .exit)) ⌝ }
 {
     let mut p = at;
     let mut k = 0;
     while k < home.len() {
         let own = schema::numbers::wide(home[k]) == table;
-        p = put_cell(&mut *out, p, own, cells[512 * k + row]);
+        p = put_cell(&mut *out, p, own, cells[Instance::ROWS * k + row]);
         k += 1;
     }
     p
@@ -50,7 +52,7 @@ fn put_row(
     node: &[u8],
     values: &[u32],
 ) -> usize
-    requires { ⌜ Room (now out) at (rowText (now source) (now links) (now node) (now values) table row) × ColumnsFit (now source) (now links) (now node) (now values) × (table < 16) × (row < 512) ⌝ }
+    requires { ⌜ Room (now out) at (rowText (now source) (now links) (now node) (now values) table row) × ColumnsFit (now source) (now links) (now node) (now values) × (table < maxNodes) × (row < maxRows) ⌝ }
     ensures { λ r. ⌜ Appended (now (out .entry)) at (rowText (now (source .entry)) (now (links .entry)) (now (node .entry)) (now (values .entry)) table row) r (now (out .exit)) ⌝ }
 {
     let a = put_decimal(&mut *out, at, table as u32);
@@ -72,7 +74,7 @@ fn put_table(
     node: &[u8],
     values: &[u32],
 ) -> usize
-    requires { ⌜ Room (now out) at (tableText (now source) (now links) (now node) (now values) table rows) × ColumnsFit (now source) (now links) (now node) (now values) × (table < 16) × (rows ≤ 512) ⌝ }
+    requires { ⌜ Room (now out) at (tableText (now source) (now links) (now node) (now values) table rows) × ColumnsFit (now source) (now links) (now node) (now values) × (table < maxNodes) × (rows ≤ maxRows) ⌝ }
     ensures { λ r. ⌜ Appended (now (out .entry)) at (tableText (now (source .entry)) (now (links .entry)) (now (node .entry)) (now (values .entry)) table rows) r (now (out .exit)) ⌝ }
 {
     let mut p = at;
@@ -94,7 +96,7 @@ pub fn put_tables(
     node: &[u8],
     values: &[u32],
 ) -> usize
-    requires { ⌜ Room (now out) at (tablesText (now counts) (now source) (now links) (now node) (now values)) × ColumnsFit (now source) (now links) (now node) (now values) × (length (now counts) ≤ 16) × ((d : ℕ) → d < length (now counts) → getD (now counts) d 0 ≤ 512) ⌝ }
+    requires { ⌜ Room (now out) at (tablesText (now counts) (now source) (now links) (now node) (now values)) × ColumnsFit (now source) (now links) (now node) (now values) × (length (now counts) ≤ maxNodes) × ((d : ℕ) → d < length (now counts) → getD (now counts) d 0 ≤ maxRows) ⌝ }
     ensures { λ r. ⌜ Appended (now (out .entry)) at (tablesText (now (counts .entry)) (now (source .entry)) (now (links .entry)) (now (node .entry)) (now (values .entry))) r (now (out .exit)) ⌝ }
 {
     let mut p = at;

@@ -1,3 +1,4 @@
+-- The laws of these definitions, file by file.
 pub mod Numbering
 pub mod Schema
 pub mod Order

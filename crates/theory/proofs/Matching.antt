@@ -15,7 +15,7 @@ use Rattle.theory.proofs.Instance.{alike-rows}
 -- ---- lists and functions
 
 module _ {W : Type 0} (S : Schema) (A : Instance W) where
-  pub partners-length : (m : ℕ → ℕ → ℕ) → length (partners S A m) ≡ rows S A
+  partners-length : (m : ℕ → ℕ → ℕ) → length (partners S A m) ≡ rows S A
   unfolding partners
   partners-length m = tabulate-length (rows S A) _
 
@@ -49,7 +49,7 @@ homomorphism-follow {S = S} {A = A} {B = B} A-is m h s (e ∷ p) j x r =
     ∙ ap (follow (B .link) p) (h .link e (j .0) x q ∙ ap (λ (c : ℕ). B .link e (m c x)) (j .1))
 
 module _ {W : Type 0} {InRange : ℕ → W → Type 0} {S : Schema} (S-is : IsSchema S) {A : Instance W} (A-is : IsInstance InRange S A) {B : Instance W} where
-  pub homomorphism-same : (m k : ℕ → ℕ → ℕ) → SamePartners S A m k → IsHomomorphism S A B m → IsHomomorphism S A B k
+  homomorphism-same : (m k : ℕ → ℕ → ℕ) → SamePartners S A m k → IsHomomorphism S A B m → IsHomomorphism S A B k
   homomorphism-same m k g h = record {
     row-in = λ c i x r. rw (g c i x r) at (h .row-in c i x r);
     link = λ e i x r. sym (g (S .tgt e) (S-is .tgt-in e i) (A .link e x) (A-is .link-in e i x r)) ∙ h .link e i x r ∙ ap (B .link e) (g (S .src e) (S-is .src-in e i) x r);
@@ -65,7 +65,7 @@ module _ {W : Type 0} {InRange : ℕ → W → Type 0} {S : Schema} (S-is : IsSc
 -- ---- instances that are alike
 
 module _ {W : Type 0} {S : Schema} (S-is : IsSchema S) {A C B D : Instance W} (a : Alike S A C) (b : Alike S B D) where
-  pub homomorphism-alike : (m : ℕ → ℕ → ℕ) → IsHomomorphism S A B m → IsHomomorphism S C D m
+  homomorphism-alike : (m : ℕ → ℕ → ℕ) → IsHomomorphism S A B m → IsHomomorphism S C D m
   homomorphism-alike m h = record {
     row-in = λ c i x r. rw (← b .count c i) (h .row-in c i x (back c i x r));
     link = λ e i x r.

@@ -32,7 +32,7 @@ lex-trans (x ∷ l) (y ∷ m) (z ∷ n) (inr h) (inr k) = inr (h .0 ∙ k .0, le
 pub lex-asym : (l m : List ℕ) → Lex l m → Lex m l → ⊥
 lex-asym l m h k = lex-irreflexive l (lex-trans l m l h k)
 
-pub lex-compare : (l m : List ℕ) → length l ≡ length m → (l ≡ m) ⊎ (Lex l m ⊎ Lex m l)
+lex-compare : (l m : List ℕ) → length l ≡ length m → (l ≡ m) ⊎ (Lex l m ⊎ Lex m l)
 lex-compare [] [] e = inl refl
 lex-compare [] (y ∷ m) e = absurd (omega arith)
 lex-compare (x ∷ l) [] e = absurd (omega arith)
@@ -47,17 +47,17 @@ lex-compare (x ∷ l) (y ∷ m) e = go (decLt x y) (ℕ-discrete x y) (lex-compa
 
 -- ---- paths, by length and then from the left
 
-pub pathBefore-irreflexive : (p : List ℕ) → PathBefore p p → ⊥
+pathBefore-irreflexive : (p : List ℕ) → PathBefore p p → ⊥
 pathBefore-irreflexive p (inl h) = omega arith
 pathBefore-irreflexive p (inr h) = lex-irreflexive p (h .1)
 
-pub pathBefore-trans : (p q r : List ℕ) → PathBefore p q → PathBefore q r → PathBefore p r
+pathBefore-trans : (p q r : List ℕ) → PathBefore p q → PathBefore q r → PathBefore p r
 pathBefore-trans p q r (inl h) (inl k) = inl (omega arith)
 pathBefore-trans p q r (inl h) (inr k) = inl (omega arith)
 pathBefore-trans p q r (inr h) (inl k) = inl (omega arith)
 pathBefore-trans p q r (inr h) (inr k) = inr (h .0 ∙ k .0, lex-trans p q r (h .1) (k .1))
 
-pub pathBefore-compare : (p q : List ℕ) → (p ≡ q) ⊎ (PathBefore p q ⊎ PathBefore q p)
+pathBefore-compare : (p q : List ℕ) → (p ≡ q) ⊎ (PathBefore p q ⊎ PathBefore q p)
 pathBefore-compare p q = go (decLt (length p) (length q)) (ℕ-discrete (length p) (length q))
   where
     equal : length p ≡ length q → (p ≡ q) ⊎ (Lex p q ⊎ Lex q p) → (p ≡ q) ⊎ (PathBefore p q ⊎ PathBefore q p)
@@ -85,7 +85,7 @@ pub componentBefore-irreflexive : (k : ℕ × List ℕ) → ComponentBefore k k 
 componentBefore-irreflexive k (inl h) = omega arith
 componentBefore-irreflexive k (inr h) = pathBefore-irreflexive (k .1) (h .1)
 
-pub componentBefore-trans : (k m n : ℕ × List ℕ) → ComponentBefore k m → ComponentBefore m n → ComponentBefore k n
+componentBefore-trans : (k m n : ℕ × List ℕ) → ComponentBefore k m → ComponentBefore m n → ComponentBefore k n
 componentBefore-trans k m n (inl a) (inl b) = inl (omega arith)
 componentBefore-trans k m n (inl a) (inr b) = inl (omega arith)
 componentBefore-trans k m n (inr a) (inl b) = inl (omega arith)
@@ -114,7 +114,7 @@ sorted-map Before After f (x ∷ l) g h = (
   sorted-map Before After f l (λ y i z j. g y (List·Memᴰ·tail i) z (List·Memᴰ·tail j)) (h .1),
 )
 
-pub sorted-tabulate : {A : Type 0} (Before : A → A → Type 0) (k : ℕ) (f : ℕ → A) → ((n m : ℕ) → n < m → m < k → Before (f n) (f m)) → Sorted Before (tabulate k f)
+sorted-tabulate : {A : Type 0} (Before : A → A → Type 0) (k : ℕ) (f : ℕ → A) → ((n m : ℕ) → n < m → m < k → Before (f n) (f m)) → Sorted Before (tabulate k f)
 sorted-tabulate Before zero f h = tt
 sorted-tabulate Before (suc k) f h = (
   λ y i. let r = mem-tabulate k (λ n. f (suc n)) y i in subst (Before (f 0)) (sym (r .2)) (h 0 (suc (r .0)) (omega arith) (omega (arith, r .1))),

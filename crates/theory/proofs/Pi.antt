@@ -15,7 +15,7 @@ use Rattle.theory.proofs.Family.{object-front, object-attribute, rowsAt
 
 module _ {W : Type 0} {F : Mapping} {I P : Instance W} {components : ℕ → List (ℕ × List ℕ)} {row : ℕ → ℕ → ℕ → List ℕ → ℕ} (P-is : IsPi F I P components row) where
   -- a row is known by its rows at the components
-  pub rowsAt-one : (d : ℕ) → d < F .T .nodes → (n m : ℕ) → n < P .count d → m < P .count d → rowsAt (components d) (row d n) ≡ rowsAt (components d) (row d m) → n ≡ m
+  rowsAt-one : (d : ℕ) → d < F .T .nodes → (n m : ℕ) → n < P .count d → m < P .count d → rowsAt (components d) (row d n) ≡ rowsAt (components d) (row d m) → n ≡ m
   rowsAt-one d h n m i j e = go (decLt n m) (decLt m n)
     where
       go : Dec (n < m) → Dec (m < n) → n ≡ m
@@ -24,7 +24,7 @@ module _ {W : Type 0} {F : Mapping} {I P : Instance W} {components : ℕ → Lis
       go (no a) (no b) = omega arith
 
   -- a path p takes the row at (c, g) from (c, p followed by g)
-  pub pi-follow : (d : ℕ) (p : List ℕ) → IsPath (F .T) d p → (n : ℕ) → n < P .count d
+  pi-follow : (d : ℕ) (p : List ℕ) → IsPath (F .T) d p → (n : ℕ) → n < P .count d
       → Same F (endpoint (F .T .tgt) d p) (row (endpoint (F .T .tgt) d p) (follow (P .link) p n)) (λ c g. row d n c (p ++ g))
   pi-follow d [] j n k c g o = refl
   pi-follow d (e ∷ p) j n k c g o =
@@ -34,7 +34,7 @@ module _ {W : Type 0} {F : Mapping} {I P : Instance W} {components : ℕ → Lis
       ∙ ap (λ (d : ℕ). row d n c (e ∷ (p ++ g))) (j .1)
 
   -- a row is known by its family
-  pub row-one : (d : ℕ) → d < F .T .nodes → (n m : ℕ) → n < P .count d → m < P .count d → Same F d (row d n) (row d m) → n ≡ m
+  row-one : (d : ℕ) → d < F .T .nodes → (n m : ℕ) → n < P .count d → m < P .count d → Same F d (row d n) (row d m) → n ≡ m
   row-one d h n m i j s = rowsAt-one d h n m i j (rowsAt-same (P-is .components-are d h) (row d n) (row d m) s)
 
 module _ {W : Type 0} {F : Mapping} {I P Q : Instance W} {components : ℕ → List (ℕ × List ℕ)} {row row′ : ℕ → ℕ → ℕ → List ℕ → ℕ} (P-is : IsPi F I P components row) (Q-is : IsPi F I Q components row′) where
@@ -46,7 +46,7 @@ module _ {W : Type 0} {F : Mapping} {I P Q : Instance W} {components : ℕ → L
       (λ n i. let r = P-is .every d h (row′ d n) (Q-is .family d h n i) in (r .0, r .1, sym (rowsAt-same (P-is .components-are d h) (row d (r .0)) (row′ d n) (r .2))))
 
   -- rows of two Pi with one number stand for one family
-  pub pi-one-rows : (d : ℕ) → d < F .T .nodes → (n : ℕ) → n < P .count d → Same F d (row d n) (row′ d n)
+  pi-one-rows : (d : ℕ) → d < F .T .nodes → (n : ℕ) → n < P .count d → Same F d (row d n) (row′ d n)
   pi-one-rows d h n i c g o =
       let r = Q-is .every d h (row d n) (P-is .family d h n i) in
       let e = rowsAt-one Q-is d h (r .0) n (r .1) (rw (listed d h .0) at i) (rowsAt-same (P-is .components-are d h) (row′ d (r .0)) (row d n) (r .2) ∙ listed d h .1 n i) in

@@ -30,11 +30,11 @@ share-row F I d c x = go (ℕ-discrete (F .node c) d)
     go (no e) h = absurd (not-suc-le-zero h)
 
 -- row n of the table at d is row x of c
-pub record Origin {W : Type 0} (F : Mapping) (I : Instance W) (d n c x : ℕ) : Type 0 where
-  pub node-in : c < F .S .nodes
-  pub row-in : x < I .count c
-  pub node-is : F .node c ≡ d
-  pub place-is : place F I c x ≡ n
+record Origin {W : Type 0} (F : Mapping) (I : Instance W) (d n c x : ℕ) : Type 0 where
+  node-in : c < F .S .nodes
+  row-in : x < I .count c
+  node-is : F .node c ≡ d
+  place-is : place F I c x ≡ n
 
 module _ {W : Type 0} (F : Mapping) (I : Instance W) where
   pub place-in : (c x : ℕ) → c < F .S .nodes → x < I .count c → place F I c x < size F I (F .node c)
@@ -43,7 +43,7 @@ module _ {W : Type 0} (F : Mapping) (I : Instance W) where
   pub origin-place : (c x : ℕ) → c < F .S .nodes → x < I .count c → origin F I (F .node c) (place F I c x) ≡ (c, x)
   origin-place c x h r = locate-place (share F I (F .node c)) (F .S .nodes) c x h (rw share-own r)
 
-  pub place-origin : (d n : ℕ) → n < size F I d → Origin F I d n (origin F I d n .0) (origin F I d n .1)
+  place-origin : (d n : ℕ) → n < size F I d → Origin F I d n (origin F I d n .0) (origin F I d n .1)
   place-origin d n h =
       let f = locate-found (share F I d) (F .S .nodes) n h in
       let r = share-row F I d (origin F I d n .0) (origin F I d n .1) (f .row) in

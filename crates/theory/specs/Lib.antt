@@ -1,3 +1,4 @@
+-- The definitions of source document 000, in the order in which it gives them.
 pub mod Numbering
 pub mod Schema
 pub mod Instance

@@ -5,6 +5,7 @@ use Prim.Native.Nat.{ℕ}
 use native.Mathlib.Omega.{arith}
 use Rattle.meaning.specs.Program.{push, shown}
 use Rattle.meaning.specs.Calls.{sigmaTables}
+use Rattle.text.proofs.SheetParts.{sheets-pushed}
 use Rattle.migration.proofs.Texts.{printable, prints, prints-nothing}
 use borrow.Author.Needs.{needs}
 use Rattle.migration.proofs.printing.push.Statement.{statement}
@@ -55,7 +56,7 @@ returns-2 : tie.Need-returns-2
 returns-2 c =
     let F = c .before .before .before .before .before .before .before .before .before .before .before .before .before .before .before .sheets-of .ensures in
     let z = c .before .before .before .before .before .before .before .before .before .before .before .before .before .before .before .before .before .before .before .args in
-    prints (c .before .before .before .before .before .before .before .before .before .before .before .before .before .before .bytes-of .result .now) (c .before .before .before .before .before .before .before .before .before .before .before .before .before .bytes-of2 .result .now) (c .before .before .before .before .before .before .before .before .before .before .before .before .bytes-of3 .result .now) (c .before .before .before .before .before .before .before .before .before .before .before .bytes-of4 .result .now) (c .before .before .before .before .before .before .before .before .sigma-tables .ensures) (F .says ∙ ap₂ (λ (x y : List ℕ × List ℕ). shown (sigmaTables (x .0) (x .1) (y .0) (y .1)))
+    prints (c .before .before .before .before .before .before .before .before .before .before .before .before .before .before .bytes-of .result .now) (c .before .before .before .before .before .before .before .before .before .before .before .before .before .bytes-of2 .result .now) (c .before .before .before .before .before .before .before .before .before .before .before .before .bytes-of3 .result .now) (c .before .before .before .before .before .before .before .before .before .before .before .bytes-of4 .result .now) (c .before .before .before .before .before .before .before .before .sigma-tables .ensures) (sheets-pushed F ∙ ap₂ (λ (x y : List ℕ × List ℕ). shown (sigmaTables (x .0) (x .1) (y .0) (y .1)))
     (ap₂ (λ (a b : List ℕ). (a, b)) (sym (c .before .before .before .before .before .before .before .before .before .before .before .before .before .before .bytes-of .ensures)) (sym (c .before .before .before .before .before .before .before .before .before .before .before .before .before .bytes-of2 .ensures))) (ap₂ (λ (a b : List ℕ). (a, b)) (sym (c .before .before .before .before .before .before .before .before .before .before .before .before .bytes-of3 .ensures)) (sym (c .before .before .before .before .before .before .before .before .before .before .before .bytes-of4 .ensures))))
     (let w = c .before .before .before .before .before .before .before .before .before .before .before .before .before .before .before .before .if1 .left in omega arith) (c .before .before .print .ensures)
 

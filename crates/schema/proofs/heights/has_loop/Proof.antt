@@ -4,7 +4,7 @@ use mathlib.Core.Path.{_≡_, sym, _∙_}
 use native.Mathlib.Omega.{arith}
 use borrow.Author.Tests.{eq-eqb, ne-eqb}
 use Rattle.meaning.specs.Schema.{hasPathOf, heightWithin}
-use Rattle.meaning.proofs.Heights.{go-height, Missed, missed-start, missed-more, missed-hit, missed-done}
+use Rattle.meaning.proofs.Heights.{hasPathOf-height, Missed, missed-start, missed-more, missed-hit, missed-done}
 use Rattle.schema.specs.Decoded.{graphOf}
 use Rattle.schema.proofs.NodeHeights.{height-links}
 use Rattle.schema.proofs.heights.has_loop.Statement.{statement}
@@ -29,7 +29,7 @@ node-height-requires : tie.Need-node-height-requires Inv-loop μ-loop
 node-height-requires c κs = c .before .before .before .before .before .pre
 
 returns : tie.Need-returns Inv-loop μ-loop
-returns c = sym (missed-hit (c .before .before .before .before .before .before .loop .inv) (c .before .before .before .before .before .loop-test .taken) (go-height (graphOf (c .before .before .before .before .before .before .before .args .t1)) (c .before .before .before .before .before .before .before .args .t1 .nodes) (c .before .before .before .before .before .before .loop .n) ∙ eq-eqb _ _ (sym (height-is (c .before)) ∙ c .if1 .taken)))
+returns c = sym (missed-hit (c .before .before .before .before .before .before .loop .inv) (c .before .before .before .before .before .loop-test .taken) (hasPathOf-height (graphOf (c .before .before .before .before .before .before .before .args .t1)) (c .before .before .before .before .before .before .before .args .t1 .nodes) (c .before .before .before .before .before .before .loop .n) ∙ eq-eqb _ _ (sym (height-is (c .before)) ∙ c .if1 .taken)))
 
 add-n : tie.Need-add-n Inv-loop μ-loop
 add-n c = let p = c .before .before .before .before .before .before .before .pre in omega arith
@@ -38,7 +38,7 @@ loop-less : tie.Need-loop-less Inv-loop μ-loop
 loop-less c = omega arith
 
 loop-again : tie.Need-loop-again Inv-loop μ-loop
-loop-again c = missed-more (c .before .before .before .before .before .before .loop .inv) (c .before .before .before .before .before .loop-test .taken) (go-height (graphOf (c .before .before .before .before .before .before .before .args .t1)) (c .before .before .before .before .before .before .before .args .t1 .nodes) (c .before .before .before .before .before .before .loop .n) ∙ ne-eqb _ _ (λ q. c .if1 .left (height-is (c .before) ∙ q)))
+loop-again c = missed-more (c .before .before .before .before .before .before .loop .inv) (c .before .before .before .before .before .loop-test .taken) (hasPathOf-height (graphOf (c .before .before .before .before .before .before .before .args .t1)) (c .before .before .before .before .before .before .before .args .t1 .nodes) (c .before .before .before .before .before .before .loop .n) ∙ ne-eqb _ _ (λ q. c .if1 .left (height-is (c .before) ∙ q)))
 
 returns-2 : tie.Need-returns-2 Inv-loop μ-loop
 returns-2 c = sym (missed-done (c .before .loop .inv) (c .loop-test .left))

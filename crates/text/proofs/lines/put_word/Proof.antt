@@ -2,18 +2,18 @@
 use Prim.Native.Nat.{_-_, _≤_}
 use native.Mathlib.Omega.{arith}
 use lib.ListN.{length, drop}
-use Rattle.text.proofs.Appending.{Onward, onward-start, byte-room, byte-step, word-done}
+use Rattle.text.proofs.Appending.{Unwritten, unwritten-start, byte-room, byte-step, word-done}
 use Rattle.text.proofs.lines.put_word.Statement.{statement}
 use Rattle.text.proofs.lines.put_word.Tie as tie
 
 abbrev Inv-loop : tie.InvT-loop
-Inv-loop out₀ at word p₀ i₀ out p i = (i ≤ length word) × Onward out₀ at word out p (drop i word)
+Inv-loop out₀ at word p₀ i₀ out p i = (i ≤ length word) × Unwritten out₀ at word out p (drop i word)
 
 abbrev μ-loop : tie.MeasureT-loop
 μ-loop out₀ at word p₀ i₀ out p i = length word - i
 
 loop-holds : tie.Need-loop-holds Inv-loop μ-loop
-loop-holds c = (omega arith, onward-start (c .pre))
+loop-holds c = (omega arith, unwritten-start (c .pre))
 
 shared-slice-read-out : tie.Need-shared-slice-read-out Inv-loop μ-loop
 shared-slice-read-out c = c .before .loop-test .taken
