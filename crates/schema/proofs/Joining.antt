@@ -75,7 +75,7 @@ join-same x y l e = let h : y ≤ x = omega arith in sym (join-upper x y l h) �
     each (z ∷ l) = rw (each l) (ap (λ (w : ℕ). w ∷ l) (one z (eqb z x) refl))
 
 -- ---- pairs in turn
-pub join-append : (xs ys : List (ℕ × ℕ)) (l : List ℕ) → joinNumbers (xs ++ ys) l ≡ joinNumbers ys (joinNumbers xs l)
+join-append : (xs ys : List (ℕ × ℕ)) (l : List ℕ) → joinNumbers (xs ++ ys) l ≡ joinNumbers ys (joinNumbers xs l)
 join-append [] ys l = refl
 join-append (x ∷ xs) ys l = join-append xs ys (joinClasses (getD l (x .0) 0) (getD l (x .1) 0) l)
 
@@ -95,7 +95,7 @@ module _ {a b n j : ℕ} {l m : List ℕ} (r : Run a b n l j m) where
   run-done h = sym (r .so ∙ rw (rest-done {A = ℕ × ℕ} (λ i. (a + i, b + i)) n j h))
 
 -- nothing follows nothing
-pub followers-none : (first : List ℕ) (d a b : ℕ) → followerPairs first a b 0 d ≡ []
+followers-none : (first : List ℕ) (d a b : ℕ) → followerPairs first a b 0 d ≡ []
 followers-none first zero a b = refl
 followers-none first (suc d) a b =
     let z : getD first (a + 0) 0 - getD first a 0 ≡ 0 = omega (arith, ap (λ (x : ℕ). getD first x 0) (add-zero a)) in

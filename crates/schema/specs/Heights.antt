@@ -1,4 +1,4 @@
--- Where the edges that leave a node end.
+-- The last edge that leaves a node.
 use Prim.Native.Nat.{ℕ, zero, suc}
 use mathlib.Core.Bool.{cond}
 use mathlib.Core.List.{List}

@@ -26,7 +26,7 @@ fn node_height<'a>(
     }
 }
 
-// One more than the last of the first edges that leaves a node, and 0 where none does.
+// One more than the last of the first left edges that leaves a node, and 0 where none does.
 fn leaving_end(source: &[u8; Schema::EDGES], node: u8, left: usize) -> usize
     requires { ⌜ left ≤ 32 ⌝ }
     ensures { λ r. ⌜ r ≡ leavingEnd (now (source .entry)) node left ⌝ }
@@ -41,7 +41,7 @@ fn leaving_end(source: &[u8; Schema::EDGES], node: u8, left: usize) -> usize
     0
 }
 
-// One more than the largest height over the targets of the first edges that leave a node, for paths of at most depth edges behind them.
+// One more than the largest height over the targets of those of the first left edges that leave a node, for paths of at most depth edges behind them.
 fn edges_height<'a>(
     source: &'a [u8; Schema::EDGES],
     target: &'a [u8; Schema::EDGES],

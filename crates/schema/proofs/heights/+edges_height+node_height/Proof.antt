@@ -45,177 +45,87 @@ abbrev node-height-below : ℕ → In 1 node-height-kinds.ps
 node-height-below t =
     and 1 node-height-kinds.ps (falls 1 node-height-kinds.ps _<_ μ-node-height t) node-height.Pre
 
-edges-height-leaving-end-requires : (t : ℕ) → edges-height-lts.Need-leaving-end-requires (
-  leaving-end-reads.Asked,
-  leaving-end-reads.Learnt,
-  edges-height-below t,
-  edges-height.Post,
-  node-height-below t,
-  node-height.Post,
-) (edges-height-at t) edges-height.Post
+abbrev edges-height-claims : ℕ → edges-height-lts.Claims
+edges-height-claims t = (leaving-end-reads.Asked, leaving-end-reads.Learnt, edges-height-below t, edges-height.Post, node-height-below t, node-height.Post)
+
+abbrev node-height-claims : ℕ → node-height-lts.Claims
+node-height-claims t = (edges-height-below t, edges-height.Post)
+
+edges-height-leaving-end-requires : (t : ℕ) → edges-height-lts.Need-leaving-end-requires (edges-height-claims t) (edges-height-at t) edges-height.Post
 edges-height-leaving-end-requires t c κs = omega arith
 
-edges-height-returns : (t : ℕ) → edges-height-lts.Need-returns (
-  leaving-end-reads.Asked,
-  leaving-end-reads.Learnt,
-  edges-height-below t,
-  edges-height.Post,
-  node-height-below t,
-  node-height.Post,
-) (edges-height-at t) edges-height.Post
+edges-height-returns : (t : ℕ) → edges-height-lts.Need-returns (edges-height-claims t) (edges-height-at t) edges-height.Post
 edges-height-returns t c =
     let a = c .before .before in
     let G = linksOf (a .args .edges) (a .args .source .now) (a .args .target .now) in
     sym (over-none (a .args .edges) (a .args .source .now) (a .args .target .now) (heightWithin G (a .args .depth)) (a .args .node) (a .args .left) (a .pre .1 .1) (c .before .leaving-end .ensures) (c .if1 .taken))
 
-edges-height-sub-k : (t : ℕ) → edges-height-lts.Need-sub-k (
-  leaving-end-reads.Asked,
-  leaving-end-reads.Learnt,
-  edges-height-below t,
-  edges-height.Post,
-  node-height-below t,
-  node-height.Post,
-) (edges-height-at t) edges-height.Post
+edges-height-sub-k : (t : ℕ) → edges-height-lts.Need-sub-k (edges-height-claims t) (edges-height-at t) edges-height.Post
 edges-height-sub-k t c = let n = c .if1 .left in omega arith
 
-edges-height-edges-height-requires : (t : ℕ) → edges-height-lts.Need-edges-height-requires (
-  leaving-end-reads.Asked,
-  leaving-end-reads.Learnt,
-  edges-height-below t,
-  edges-height.Post,
-  node-height-below t,
-  node-height.Post,
-) (edges-height-at t) edges-height.Post
+edges-height-edges-height-requires : (t : ℕ) → edges-height-lts.Need-edges-height-requires (edges-height-claims t) (edges-height-at t) edges-height.Post
 edges-height-edges-height-requires t c κs =
     let a = c .before .before in
     let G = linksOf (a .args .edges) (a .args .source .now) (a .args .target .now) in
     let l = end-low (a .args .edges) (a .args .source .now) (a .args .target .now) (heightWithin G (a .args .depth)) (a .args .node) (a .args .left) (a .pre .1 .1) (c .before .leaving-end .ensures) in
     omega arith
 
-edges-height-add-if2 : (t : ℕ) → edges-height-lts.Need-add-if2 (
-  leaving-end-reads.Asked,
-  leaving-end-reads.Learnt,
-  edges-height-below t,
-  edges-height.Post,
-  node-height-below t,
-  node-height.Post,
-) (edges-height-at t) edges-height.Post
+edges-height-add-if2 : (t : ℕ) → edges-height-lts.Need-add-if2 (edges-height-claims t) (edges-height-at t) edges-height.Post
 edges-height-add-if2 t c = omega arith
 
-edges-height-returns-2 : (t : ℕ) → edges-height-lts.Need-returns-2 (
-  leaving-end-reads.Asked,
-  leaving-end-reads.Learnt,
-  edges-height-below t,
-  edges-height.Post,
-  node-height-below t,
-  node-height.Post,
-) (edges-height-at t) edges-height.Post
+edges-height-returns-2 : (t : ℕ) → edges-height-lts.Need-returns-2 (edges-height-claims t) (edges-height-at t) edges-height.Post
 edges-height-returns-2 t c =
     let a = c .before .before .before .before in
     let G = linksOf (a .args .edges) (a .args .source .now) (a .args .target .now) in
     c .if2 .taken ∙ sym (over-full (a .args .edges) (a .args .source .now) (a .args .target .now) (heightWithin G (a .args .depth)) (a .args .node) (a .args .left) (a .pre .1 .1) (c .before .before .before .leaving-end .ensures) (height-le G (a .args .depth)) (c .before .before .if1 .left) (sym (c .before .edges-height .ensures) ∙ c .if2 .taken))
 
 edges-height-element-copy-out-node-height :
-    (t : ℕ) → edges-height-lts.Need-element-copy-out-node-height (
-      leaving-end-reads.Asked,
-      leaving-end-reads.Learnt,
-      edges-height-below t,
-      edges-height.Post,
-      node-height-below t,
-      node-height.Post,
-    ) (edges-height-at t) edges-height.Post
+    (t : ℕ) → edges-height-lts.Need-element-copy-out-node-height (edges-height-claims t) (edges-height-at t) edges-height.Post
 edges-height-element-copy-out-node-height t c =
     let a = c .before .before .before .before in
     let G = linksOf (a .args .edges) (a .args .source .now) (a .args .target .now) in
     let l = end-low (a .args .edges) (a .args .source .now) (a .args .target .now) (heightWithin G (a .args .depth)) (a .args .node) (a .args .left) (a .pre .1 .1) (c .before .before .before .leaving-end .ensures) in
     omega arith
 
-edges-height-node-height-requires : (t : ℕ) → edges-height-lts.Need-node-height-requires (
-  leaving-end-reads.Asked,
-  leaving-end-reads.Learnt,
-  edges-height-below t,
-  edges-height.Post,
-  node-height-below t,
-  node-height.Post,
-) (edges-height-at t) edges-height.Post
+edges-height-node-height-requires : (t : ℕ) → edges-height-lts.Need-node-height-requires (edges-height-claims t) (edges-height-at t) edges-height.Post
 edges-height-node-height-requires t c κs = omega arith
 
-edges-height-add-h : (t : ℕ) → edges-height-lts.Need-add-h (
-  leaving-end-reads.Asked,
-  leaving-end-reads.Learnt,
-  edges-height-below t,
-  edges-height.Post,
-  node-height-below t,
-  node-height.Post,
-) (edges-height-at t) edges-height.Post
+edges-height-add-h : (t : ℕ) → edges-height-lts.Need-add-h (edges-height-claims t) (edges-height-at t) edges-height.Post
 edges-height-add-h t c =
     let a = c .before .before .before .before .before .before in
     let G = linksOf (a .args .edges) (a .args .source .now) (a .args .target .now) in
     omega (arith, c .node-height .ensures, height-le G (a .args .depth) (getD (a .args .target .now) (c .before .before .before .before .before .leaving-end .result - 1) 0))
 
-edges-height-returns-3 : (t : ℕ) → edges-height-lts.Need-returns-3 (
-  leaving-end-reads.Asked,
-  leaving-end-reads.Learnt,
-  edges-height-below t,
-  edges-height.Post,
-  node-height-below t,
-  node-height.Post,
-) (edges-height-at t) edges-height.Post
+edges-height-returns-3 : (t : ℕ) → edges-height-lts.Need-returns-3 (edges-height-claims t) (edges-height-at t) edges-height.Post
 edges-height-returns-3 t c =
     let a = c .before .before .before .before .before .before .before in
     let G = linksOf (a .args .edges) (a .args .source .now) (a .args .target .now) in
     let x = over-last (a .args .edges) (a .args .source .now) (a .args .target .now) (heightWithin G (a .args .depth)) (a .args .node) (a .args .left) (a .pre .1 .1) (c .before .before .before .before .before .before .leaving-end .ensures) (c .before .before .before .before .before .if1 .left) in
     omega (arith, x, c .before .node-height .ensures, c .before .before .before .before .edges-height .ensures, c .if3 .taken)
 
-edges-height-returns-4 : (t : ℕ) → edges-height-lts.Need-returns-4 (
-  leaving-end-reads.Asked,
-  leaving-end-reads.Learnt,
-  edges-height-below t,
-  edges-height.Post,
-  node-height-below t,
-  node-height.Post,
-) (edges-height-at t) edges-height.Post
+edges-height-returns-4 : (t : ℕ) → edges-height-lts.Need-returns-4 (edges-height-claims t) (edges-height-at t) edges-height.Post
 edges-height-returns-4 t c =
     let a = c .before .before .before .before .before .before .before in
     let G = linksOf (a .args .edges) (a .args .source .now) (a .args .target .now) in
     let x = over-last (a .args .edges) (a .args .source .now) (a .args .target .now) (heightWithin G (a .args .depth)) (a .args .node) (a .args .left) (a .pre .1 .1) (c .before .before .before .before .before .before .leaving-end .ensures) (c .before .before .before .before .before .if1 .left) in
     omega (arith, x, c .before .node-height .ensures, c .before .before .before .before .edges-height .ensures, c .if3 .left)
 
-node-height-sub-edges-height : (t : ℕ) → node-height-lts.Need-sub-edges-height (
-  edges-height-below t,
-  edges-height.Post,
-) (node-height-at t) node-height.Post
+node-height-sub-edges-height : (t : ℕ) → node-height-lts.Need-sub-edges-height (node-height-claims t) (node-height-at t) node-height.Post
 node-height-sub-edges-height t c = omega arith
 
-node-height-edges-height-requires : (t : ℕ) → node-height-lts.Need-edges-height-requires (
-  edges-height-below t,
-  edges-height.Post,
-) (node-height-at t) node-height.Post
+node-height-edges-height-requires : (t : ℕ) → node-height-lts.Need-edges-height-requires (node-height-claims t) (node-height-at t) node-height.Post
 node-height-edges-height-requires t c κs = omega arith
 
-node-height-returns : (t : ℕ) → node-height-lts.Need-returns (
-  edges-height-below t,
-  edges-height.Post,
-) (node-height-at t) node-height.Post
+node-height-returns : (t : ℕ) → node-height-lts.Need-returns (node-height-claims t) (node-height-at t) node-height.Post
 node-height-returns t c = rw (c .if1 .taken)
 
-node-height-returns-2 : (t : ℕ) → node-height-lts.Need-returns-2 (
-  edges-height-below t,
-  edges-height.Post,
-) (node-height-at t) node-height.Post
+node-height-returns-2 : (t : ℕ) → node-height-lts.Need-returns-2 (node-height-claims t) (node-height-at t) node-height.Post
 node-height-returns-2 t c =
     let a = c .before .before in
     c .edges-height .ensures ∙ sym (height-down (a .args .edges) (a .args .source .now) (a .args .target .now) (a .args .depth) (a .args .node) (c .before .if1 .left))
 
 pub +edges-height+node-height-spec : {M : Type 1} → statement M
-+edges-height+node-height-spec = close μ-edges-height μ-node-height (λ t. edges-height-lts.spec (
-  leaving-end-reads.Asked,
-  leaving-end-reads.Learnt,
-  edges-height-below t,
-  edges-height.Post,
-  node-height-below t,
-  node-height.Post,
-)
++edges-height+node-height-spec = close μ-edges-height μ-node-height (λ t. edges-height-lts.spec (edges-height-claims t)
     (edges-height-at t)
     edges-height.Post
     (edges-height-leaving-end-requires t)
@@ -230,7 +140,7 @@ pub +edges-height+node-height-spec : {M : Type 1} → statement M
     (edges-height-returns-3 t)
     (edges-height-returns-4 t))
     λ t. node-height-lts.spec
-    (edges-height-below t, edges-height.Post)
+    (node-height-claims t)
     (node-height-at t)
     node-height.Post
     (node-height-sub-edges-height t)
