@@ -151,7 +151,7 @@ module _ (t : Schema) (p : Paths) (sound : Sound t) (table : IsTable (graphOf (t
     runs = λ u w e. pairs-within G (sound .acyclic) table-index (a q h u w e) (b q h u w e) (one-end q h u w e) (to-left q h u w e .below) (to-right q h u w e .below) (G .nodes);
   }
 
-  pub pairs-linked : (z : ℕ × ℕ) → List·Memᴰ z (schemaPairs t p) → Linked S z
+  pairs-linked : (z : ℕ × ℕ) → List·Memᴰ z (schemaPairs t p) → Linked S z
   pairs-linked z m =
       let x = concatMap-of (λ q. equationPairs p (t .graph .nodes) (left q) (right q)) (upto (t .equations)) m in
       let y = concatMap-of (pairsAt p (t .graph .nodes) (left (x .0)) (right (x .0))) (upto (p .count)) (x .2) in

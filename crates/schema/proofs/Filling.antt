@@ -20,7 +20,7 @@ use Rattle.schema.specs.declared.Paths.{Paths}
 use Rattle.schema.specs.Decoded.{graphOf}
 use Rattle.schema.specs.Counted.{Fit}
 use Rattle.schema.specs.PathNumbers.{initial, final, startOf, endOf, lengthOf, parentOf, lastOf, firstOf, leavingBelow, rankOf}
-use Rattle.schema.specs.Table.{Filled, Columns, Trivial}
+use Rattle.schema.specs.Table.{Filled, Columns, Trivial, NextLeaving}
 use Rattle.schema.proofs.GraphEdges.{source-at}
 use Rattle.schema.proofs.PathNumbers.{below-here, below-skip, trivial-at, trivial-count, first-more, first-end, next-at}
 use Rattle.schema.proofs.PathParents.{initial-one, final-one, first-after, parents}
@@ -152,29 +152,29 @@ module _ (G : Graph) (acyclic : hasLoop G ≡ false) where
     pub filling-end : getD (t .end) h 0 ≡ endOf G h
     filling-end = f .columns .end .each h filling-row
 
-    module _ (edge : e < length (G .edges)) where
-      pub filling-skip : (source G e ≡ endOf G h → ⊥) → Filling G n h (e + 1) t
-      filling-skip q = record {
-        some = f .some;
-        within = omega arith;
-        fresh = λ l. absurd (omega arith);
-        next = f .next ∙ ap (λ (l : List ℕ). firstOf G h + length l) (sym (below-skip G (endOf G h) e q));
-        columns = f .columns;
-        first = f .first;
-      }
+    -- up to the next edge that leaves its end
+    pub filling-to : {k : ℕ} → NextLeaving G (endOf G h) e k → Filling G n h k t
+    filling-to {k} s = record {
+      some = f .some;
+      within = s .within;
+      fresh = λ l. absurd (omega arith);
+      next = f .next ∙ ap (λ (l : List ℕ). firstOf G h + length l) (sym (s .none));
+      columns = f .columns;
+      first = f .first;
+    }
 
-      module _ (here : source G e ≡ endOf G h) where
-        number-is : n ≡ firstOf G h + rankOf G e
-        number-is = f .next ∙ ap (λ (v : ℕ). firstOf G h + length (leavingBelow G v e)) (sym here)
+    module _ (edge : e < length (G .edges)) (here : source G e ≡ endOf G h) where
+      number-is : n ≡ firstOf G h + rankOf G e
+      number-is = f .next ∙ ap (λ (v : ℕ). firstOf G h + length (leavingBelow G v e)) (sym here)
 
-        pub filling-in : n < pathCount G
-        filling-in = omega (arith, number-is, next-at G acyclic h e less edge here .0)
+      pub filling-in : n < pathCount G
+      filling-in = omega (arith, number-is, next-at G acyclic h e less edge here .0)
 
-        pub filling-is : NextRow G n h e
-        filling-is = next-row G n h e less (ap (pathAt G) number-is ∙ next-at G acyclic h e less edge here .1)
+      pub filling-is : NextRow G n h e
+      filling-is = next-row G n h e less (ap (pathAt G) number-is ∙ next-at G acyclic h e less edge here .1)
 
-        pub filling-more : n + 1 ≡ firstOf G h + length (leavingBelow G (endOf G h) (e + 1))
-        filling-more = omega (arith, f .next, ap length (below-here G (endOf G h) e here), length-append (leavingBelow G (endOf G h) e) (e ∷ []))
+      pub filling-more : n + 1 ≡ firstOf G h + length (leavingBelow G (endOf G h) (e + 1))
+      filling-more = omega (arith, f .next, ap length (below-here G (endOf G h) e here), length-append (leavingBelow G (endOf G h) e) (e ∷ []))
 
     -- path h is followed by every edge
     module _ (all : length (G .edges) ≤ e) where

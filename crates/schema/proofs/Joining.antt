@@ -15,7 +15,7 @@ use Rattle.meaning.specs.PathEquality.{joinClasses}
 use Rattle.meaning.proofs.Tabulate.{rest-more, rest-done}
 use Rattle.meaning.proofs.Lists.{upto-length, upto-getD}
 use Rattle.schema.specs.Table.{Filled}
-use Rattle.schema.specs.Classes.{renamedTo, joinNumbers, runPairs, followerPairs, RunsIn}
+use Rattle.schema.specs.Classes.{renamedTo, joinNumbers, runPairs, followerPairs, RunsIn, NextEnding}
 
 -- ---- a list mapped in place: its first i elements are
 pub front : (ℕ → ℕ) → ℕ → List ℕ → List ℕ
@@ -75,7 +75,7 @@ join-same x y l e = let h : y ≤ x = omega arith in sym (join-upper x y l h) �
     each (z ∷ l) = rw (each l) (ap (λ (w : ℕ). w ∷ l) (one z (eqb z x) refl))
 
 -- ---- pairs in turn
-pub join-append : (xs ys : List (ℕ × ℕ)) (l : List ℕ) → joinNumbers (xs ++ ys) l ≡ joinNumbers ys (joinNumbers xs l)
+join-append : (xs ys : List (ℕ × ℕ)) (l : List ℕ) → joinNumbers (xs ++ ys) l ≡ joinNumbers ys (joinNumbers xs l)
 join-append [] ys l = refl
 join-append (x ∷ xs) ys l = join-append xs ys (joinClasses (getD l (x .0) 0) (getD l (x .1) 0) l)
 
@@ -95,7 +95,7 @@ module _ {a b n j : ℕ} {l m : List ℕ} (r : Run a b n l j m) where
   run-done h = sym (r .so ∙ rw (rest-done {A = ℕ × ℕ} (λ i. (a + i, b + i)) n j h))
 
 -- nothing follows nothing
-pub followers-none : (first : List ℕ) (d a b : ℕ) → followerPairs first a b 0 d ≡ []
+followers-none : (first : List ℕ) (d a b : ℕ) → followerPairs first a b 0 d ≡ []
 followers-none first zero a b = refl
 followers-none first (suc d) a b =
     let z : getD first (a + 0) 0 - getD first a 0 ≡ 0 = omega (arith, ap (λ (x : ℕ). getD first x 0) (add-zero a)) in
@@ -146,3 +146,14 @@ module _ {F : ℕ → List (ℕ × ℕ)} {n i : ℕ} {l m : List ℕ} (t : Turns
 
   pub turns-done : n ≤ i → m ≡ joinNumbers (concatMap F (upto n)) l
   turns-done h = let z : n - i ≡ 0 = omega arith in sym (t .so ∙ rw z)
+
+-- no pairs from number i to number k
+turns-to : {F : ℕ → List (ℕ × ℕ)} {n i k : ℕ} {l m : List ℕ} (d : ℕ) → i + d ≡ k → Turns F n l i m → k ≤ n → ((j : ℕ) → j < k → i ≤ j → F j ≡ []) → Turns F n l k m
+turns-to {F} {n} {i} {k} {l} {m} zero e t h none = let z : i ≡ k = omega arith in subst (λ (x : ℕ). Turns F n l x m) z t
+turns-to {F} {n} {i} {k} {l} {m} (suc d) e t h none =
+    let less : i < k = omega arith in
+    turns-to d (omega arith) (turns-more t (omega arith) (rw (none i less (omega arith)))) h (λ j a b. none j a (omega arith))
+
+-- behind paths that end elsewhere there is nothing to join
+pub turns-next : {F : ℕ → List (ℕ × ℕ)} {n i k v : ℕ} {l m ends : List ℕ} → ((j : ℕ) → (getD ends j 0 ≡ v → ⊥) → F j ≡ []) → Turns F n l i m → NextEnding ends v i n k → Turns F n l k m
+turns-next {n} {i} {k} elsewhere t e = let h = e .later in turns-to (k - i) (omega arith) t (e .within) (λ j x y. elsewhere j (e .none j x y))

@@ -31,7 +31,7 @@ module _ (G : Graph) (v k : ℕ) where
   below-skip e = below-more ∙ rw (ne-eqb (source G k) v e, append-nil)
 
 -- an edge stands at its rank among those that leave its source
-pub rank-at : (G : Graph) (v e k : ℕ) → e < k → source G e ≡ v → (length (leavingBelow G v e) < length (leavingBelow G v k)) × (getD (leavingBelow G v k) (length (leavingBelow G v e)) 0 ≡ e)
+rank-at : (G : Graph) (v e k : ℕ) → e < k → source G e ≡ v → (length (leavingBelow G v e) < length (leavingBelow G v k)) × (getD (leavingBelow G v k) (length (leavingBelow G v e)) 0 ≡ e)
 rank-at G v e zero l q = absurd (not-suc-le-zero l)
 rank-at G v e (suc k) l q = subst (λ (m : ℕ). (r < length (leavingBelow G v m)) × (getD (leavingBelow G v m) r 0 ≡ e)) (add-one k) (go (eqb e k) refl (λ m. rank-at G v e k m q))
   where

@@ -32,7 +32,7 @@ any-count : (f : ℕ → Bool) (h : ℕ → ℕ) → ((x : ℕ) → f x ≡ ltb 
 any-count f h e [] = refl
 any-count f h e (x ∷ l) = rw (e x, any-count f h e l) (some-or (h x) (sumOf (map h l)))
 
-pub path-count : (G : Graph) (k n : ℕ) → hasPathOf G k n ≡ ltb 0 (length (edgeLists G k n))
+path-count : (G : Graph) (k n : ℕ) → hasPathOf G k n ≡ ltb 0 (length (edgeLists G k n))
 path-count G zero n = refl
 path-count G (suc k) n = any-count (λ e. hasPathOf G k (target G e)) (λ e. length (edgeLists G k (target G e))) (λ e. path-count G k (target G e)) (leaving G n) ∙ ap (ltb 0) (sym (edgeLists-more G k n))
 
@@ -113,7 +113,7 @@ module _ {g : declared.Graph} {t : Tally} {sum k : ℕ} (v : Levels g t sum k) w
   levels-few = record { each = λ n l. omega (arith, v .tally n l) }
 
   -- the tally, summed
-  pub levels-here : {r : ℕ} → r ≡ min 257 (total (at t) (g .nodes)) → r ≡ min 257 (length (pathsOfLength (graphOf g) k))
+  levels-here : {r : ℕ} → r ≡ min 257 (total (at t) (g .nodes)) → r ≡ min 257 (length (pathsOfLength (graphOf g) k))
   levels-here e = e ∙ total-capped (at t) (λ n. length (edgeLists (graphOf g) k n)) (g .nodes) (v .tally) ∙ ap (min 257) (sym (level (graphOf g) k))
 
   pub levels-more : Fit g → k < g .nodes → {r s : ℕ} → r ≡ min 257 (total (at t) (g .nodes)) → s ≡ min 257 (sum + r) → {u : Tally} → Next g t u → Levels g u s (k + 1)

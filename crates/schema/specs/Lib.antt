@@ -1,5 +1,6 @@
 pub mod Decoded
 pub mod Counted
+pub mod Heights
 pub mod Judged
 pub mod PathNumbers
 pub mod Table

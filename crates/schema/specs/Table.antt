@@ -3,10 +3,10 @@ use Prim.Native.Nat.{ℕ, _+_, _<_, _≤_}
 use mathlib.Core.Path.{_≡_}
 use mathlib.Core.List.{List}
 use lib.ListN.{length, getD}
-use Rattle.meaning.specs.Schema.{Graph}
+use Rattle.meaning.specs.Schema.{Graph, source}
 use Rattle.agreement.proofs.Paths.{pathCount}
 use Rattle.schema.specs.declared.Paths.{Paths}
-use Rattle.schema.specs.PathNumbers.{startOf, endOf, lengthOf, parentOf, lastOf, firstOf, rankOf}
+use Rattle.schema.specs.PathNumbers.{startOf, endOf, lengthOf, parentOf, lastOf, firstOf, leavingBelow, rankOf}
 
 -- the first n entries of an array of `size` entries are those of f
 pub record Filled (size : ℕ) (f : ℕ → ℕ) (n : ℕ) (l : List ℕ) : Type 0 where
@@ -23,6 +23,13 @@ pub record Trivial (n : ℕ) (t : Paths) : Type 0 where
   pub parent : Filled 256 (λ i. i) n (t .parent)
   pub last : Filled 256 (λ i. 0) n (t .last)
   pub first : Filled 257 (λ i. n) 1 (t .first)
+
+-- edge k is the first from e on that leaves node v, or there is none and k is the number of edges
+pub record NextLeaving (G : Graph) (v e k : ℕ) : Type 0 where
+  pub later : e ≤ k
+  pub within : k ≤ length (G .edges)
+  pub none : leavingBelow G v k ≡ leavingBelow G v e
+  pub leaves : (k < length (G .edges) → source G k ≡ v)
 
 -- the rows of the first n paths
 pub record Columns (G : Graph) (n : ℕ) (t : Paths) : Type 0 where

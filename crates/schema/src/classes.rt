@@ -14,7 +14,7 @@ ghost use Rattle.meaning.specs.PathEquality.{joinClasses};
 ghost use Rattle.schema.specs.Decoded.{graphOf, schemaOf};
 ghost use Rattle.schema.specs.Judged.{Sound};
 ghost use Rattle.schema.specs.Table.{Filled, IsTable};
-ghost use Rattle.schema.specs.Classes.{renamedTo, joinNumbers, runPairs, followerPairs, RunsIn, equationPairs, Joinable, classNumber};
+ghost use Rattle.schema.specs.Classes.{renamedTo, joinNumbers, runPairs, followerPairs, RunsIn, NextEnding, equationPairs, Joinable, classNumber};
 
 // The class number of each path.
 pub struct Classes {
@@ -113,6 +113,21 @@ fn join_followers(
     out
 }
 
+// The first path from a path on that ends at a node, or the number of paths where none does.
+fn next_ending(end: &[u8; Schema::PATHS], node: u8, from: usize, count: usize) -> usize
+    requires { ⌜ («from» ≤ count) × (count ≤ 256) ⌝ }
+    ensures { λ r. ⌜ NextEnding (now (end .entry)) node «from» count r ⌝ }
+{
+    let mut k = from;
+    while k < count {
+        if end[k] == node {
+            return k;
+        }
+        k += 1;
+    }
+    k
+}
+
 // The classes that an equation joins: behind each path u that ends at its start.
 fn join_equation(p: Paths, c: Classes, left: Path, right: Path, nodes: usize) -> Classes
     requires { ⌜ Joinable p nodes left right ⌝ }
@@ -120,15 +135,12 @@ fn join_equation(p: Paths, c: Classes, left: Path, right: Path, nodes: usize) ->
 {
     let count = p.count;
     let mut out = c;
-    let mut u = 0;
+    let mut u = next_ending(&p.end, left.start, 0, count);
     while u < count {
-        let k = u;
-        u += 1;
-        if p.end[k] == left.start {
-            let a = walk(&p.first, &p.rank, k, &left.edges, left.length);
-            let b = walk(&p.first, &p.rank, k, &right.edges, right.length);
-            out = join_followers(&p.first, out, a, b, nodes);
-        }
+        let a = walk(&p.first, &p.rank, u, &left.edges, left.length);
+        let b = walk(&p.first, &p.rank, u, &right.edges, right.length);
+        out = join_followers(&p.first, out, a, b, nodes);
+        u = next_ending(&p.end, left.start, u + 1, count);
     }
     out
 }

@@ -8,15 +8,18 @@ ghost use Prim.Native.Nat.{_≤_, min};
 ghost use Rattle.meaning.proofs.PathCounts.{total};
 ghost use Rattle.schema.specs.Counted.{Fit, at, Few, Next, Counted};
 
+// Stands for any number of paths above the limit.
+const MANY: u16 = 257;
+
 // For each node, how many paths of one length start there.
-pub struct Tally {
-    pub paths: [u16; Schema::NODES],
+struct Tally {
+    paths: [u16; Schema::NODES],
 }
 
 fn capped(x: u16) -> u16
     ensures { λ r. ⌜ r ≡ min 257 x ⌝ }
 {
-    if x < 257 { x } else { 257 }
+    if x < MANY { x } else { MANY }
 }
 
 // The tally of the next length: an edge hands its target's number to its source.

@@ -173,7 +173,7 @@ fn read_graph(s: &[u8], nodes: usize, edges: usize) -> Graph
     let mut target = [0u8; Schema::EDGES];
     let mut i = 0;
     while i < edges {
-        let p = 22 + 8 * i;
+        let p = Counts::BITS + 8 * i;
         source[i] = small(s, p, 4);
         target[i] = small(s, p + 4, 4);
         i += 1;
@@ -192,6 +192,10 @@ struct Counts {
     edges: usize,
     attributes: usize,
     equations: usize,
+}
+
+impl Counts {
+    const BITS: usize = 22;
 }
 
 fn read_counts(s: &[u8]) -> Counts
@@ -235,7 +239,7 @@ fn decode_body(s: &[u8], c: Counts) -> Schema
     ensures { λ r. ⌜ Decoded r (onBody (countsOf c) (now (s .entry))) ⌝ }
 {
     let attributes = c.attributes;
-    let middle = 22 + 8 * c.edges;
+    let middle = Counts::BITS + 8 * c.edges;
     let last = middle + 8 * attributes;
     if lacks_at(s, 0, last) {
         return Schema::faulty(1);
@@ -269,7 +273,7 @@ fn decode_body(s: &[u8], c: Counts) -> Schema
 pub fn decode_schema(s: &[u8]) -> Schema
     ensures { λ r. ⌜ Decoded r (onSheet readSchema (now (s .entry))) ⌝ }
 {
-    if lacks_at(s, 0, 22) {
+    if lacks_at(s, 0, Counts::BITS) {
         return Schema::faulty(1);
     }
     let c = read_counts(s);

@@ -6,6 +6,7 @@ ghost use mathlib.Core.Path.{_≡_};
 ghost use Prim.Native.Nat.{_≤_, _<_};
 ghost use Rattle.meaning.specs.Schema.{heightWithin, heightOver, hasLoop};
 ghost use Rattle.schema.specs.Decoded.{linksOf, graphOf};
+ghost use Rattle.schema.specs.Heights.{leavingEnd};
 
 // The height of a node, for paths of at most depth edges.
 fn node_height<'a>(
@@ -25,7 +26,22 @@ fn node_height<'a>(
     }
 }
 
-// One more than the largest height over the targets of the first edges that leave a node, for paths of at most depth edges behind them.
+// One more than the last of the first left edges that leaves a node, and 0 where none does.
+fn leaving_end(source: &[u8; Schema::EDGES], node: u8, left: usize) -> usize
+    requires { ⌜ left ≤ 32 ⌝ }
+    ensures { λ r. ⌜ r ≡ leavingEnd (now (source .entry)) node left ⌝ }
+{
+    let mut k = left;
+    while k > 0 {
+        if source[k - 1] == node {
+            return k;
+        }
+        k -= 1;
+    }
+    0
+}
+
+// One more than the largest height over the targets of those of the first left edges that leave a node, for paths of at most depth edges behind them.
 fn edges_height<'a>(
     source: &'a [u8; Schema::EDGES],
     target: &'a [u8; Schema::EDGES],
@@ -37,19 +53,18 @@ fn edges_height<'a>(
     requires { ⌜ (edges ≤ 32) × (left ≤ edges) × (depth < 16) ⌝ }
     ensures { λ r. ⌜ r ≡ heightOver (linksOf edges (now (source .entry)) (now (target .entry))) (heightWithin (linksOf edges (now (source .entry)) (now (target .entry))) depth) node left ⌝ }
 {
-    if left == 0 {
+    let end = leaving_end(source, node, left);
+    if end == 0 {
         return 0;
     }
-    let k = left - 1;
+    let k = end - 1;
     let rest = edges_height(source, target, edges, depth, node, k);
     if rest == depth + 1 {
         return rest;
     }
-    if source[k] == node {
-        let h = node_height(source, target, edges, depth, target[k]) + 1;
-        if rest < h {
-            return h;
-        }
+    let h = node_height(source, target, edges, depth, target[k]) + 1;
+    if rest < h {
+        return h;
     }
     rest
 }

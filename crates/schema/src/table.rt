@@ -10,7 +10,7 @@ ghost use Rattle.meaning.specs.Schema.{hasLoop};
 ghost use Rattle.agreement.proofs.Paths.{pathCount};
 ghost use Rattle.schema.specs.Decoded.{graphOf};
 ghost use Rattle.schema.specs.Counted.{Fit};
-ghost use Rattle.schema.specs.Table.{Ranked, Trivial, Rows};
+ghost use Rattle.schema.specs.Table.{Ranked, Trivial, NextLeaving, Rows};
 
 // For each edge its place among those that leave its source.
 pub fn rank_edges(g: Graph) -> [u8; Schema::EDGES]
@@ -58,6 +58,22 @@ fn trivial_paths(nodes: usize) -> Paths
     }
 }
 
+// The first edge from an edge on that leaves a node, or the number of edges where none does.
+fn next_leaving(g: Graph, node: u8, from: usize) -> usize
+    requires { ⌜ («from» ≤ g .edges) × (g .edges ≤ 32) ⌝ }
+    ensures { λ r. ⌜ NextLeaving (graphOf g) node «from» r ⌝ }
+{
+    let edges = g.edges;
+    let mut k = from;
+    while k < edges {
+        if g.source[k] == node {
+            return k;
+        }
+        k += 1;
+    }
+    k
+}
+
 // All rows: path h is followed by the edges from e on, and the next row is row n.
 pub fn fill(g: Graph, count: usize) -> Paths
     requires { ⌜ Fit g × (hasLoop (graphOf g) ≡ false) × (count ≡ pathCount (graphOf g)) × (count ≤ 256) ⌝ }
@@ -69,20 +85,18 @@ pub fn fill(g: Graph, count: usize) -> Paths
     let mut h = 0;
     let mut e = 0;
     while h < count {
-        if e < edges {
-            let k = e;
-            e += 1;
-            if g.source[k] == t.end[h] {
-                let start = t.start[h];
-                let longer = t.length[h] + 1;
-                let end = g.target[k];
-                t.start[n] = start;
-                t.end[n] = end;
-                t.length[n] = longer;
-                t.parent[n] = h as u8;
-                t.last[n] = k as u8;
-                n += 1;
-            }
+        let k = next_leaving(g, t.end[h], e);
+        if k < edges {
+            let start = t.start[h];
+            let longer = t.length[h] + 1;
+            let end = g.target[k];
+            t.start[n] = start;
+            t.end[n] = end;
+            t.length[n] = longer;
+            t.parent[n] = h as u8;
+            t.last[n] = k as u8;
+            n += 1;
+            e = k + 1;
         } else {
             h += 1;
             t.first[h] = n as u16;

@@ -10,6 +10,7 @@ ghost use Rattle.theory.specs.Numbering.{tabulate};
 ghost use Rattle.schema.specs.Decoded.{pathOf};
 ghost use Rattle.schema.specs.PathWalks.{walkFrom, WalkIn};
 
+// The number of the path that follows by an edge of a rank, where those that follow begin at first.
 fn sum(first: u16, rank: u8) -> usize
     ensures { λ r. ⌜ r ≡ first + rank ⌝ }
 {

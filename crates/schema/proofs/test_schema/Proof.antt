@@ -33,7 +33,7 @@ returns-2 : tie.Need-returns-2
 returns-2 c =
     let w : isWellFormed (schemaOf (c .before .before .before .before .before .before .before .before .args .t)) ≡ true = sym (c .before .before .before .before .before .before .before .is-well-formed .ensures) ∙ c .before .before .before .before .before .before .if1 .taken in
     let h : hasLoop (graphOf (c .before .before .before .before .before .before .before .before .args .t .graph)) ≡ false = sym (c .before .before .before .before .count-paths .ensures .looped) ∙ c .before .if3 .left in
-    faulty-says (c .faulty2 .ensures) (λ q. omega arith) (rw (w, h, crowd _ (c .before .before .before .before .count-paths .ensures .paths) (c .before .before .if2 .taken)))
+    faulty-says (c .faulty2 .ensures) (λ q. omega arith) (rw (w, h, crowd _ (c .before .before .before .before .count-paths .ensures .paths) (omega (arith, c .before .before .if2 .taken))))
 
 has-loop-requires : tie.Need-has-loop-requires
 has-loop-requires c κs = search needs
