@@ -1,4 +1,4 @@
--- Attributes over an attribute, and pairs of attributes, by arrays.
+-- Attributes over an attribute, and whether the attribute mapping is a bijection, by arrays.
 use Prim.Native.Nat.{ℕ}
 use mathlib.Core.Path.{_≡_, ap, _∙_}
 use mathlib.Core.Bool.{_&&_}

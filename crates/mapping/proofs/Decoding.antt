@@ -32,7 +32,7 @@ module _ (s : List ℕ) (p : ℕ) where
 
 -- ---- a mapping sheet
 -- n numbers of 4 bits from p on
-abbrev pub numbersIn : List ℕ → ℕ → ℕ → List ℕ
+abbrev numbersIn : List ℕ → ℕ → ℕ → List ℕ
 numbersIn s p n = tabulate n (λ i. bits.field s (p + 4 * i) 4)
 
 module _ (t : Schema) (s : List ℕ) where

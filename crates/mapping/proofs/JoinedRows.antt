@@ -23,7 +23,7 @@ rows-append I (x ∷ l) k = let e = rows-append I l k in omega arith
 
 -- counts has the rows of each table of I
 module _ (s : Schema) (m : Mapping) (I : Instance) (counts : List ℕ) (same : (c : ℕ) → c < s .graph .nodes → count I c ≡ getD counts c 0) where
-  pub rows-below : (d n : ℕ) → n ≤ s .graph .nodes → rowsIn I (fibreBelow (mappingOf s m) n d) ≡ joinedBefore (m .node) counts d n
+  rows-below : (d n : ℕ) → n ≤ s .graph .nodes → rowsIn I (fibreBelow (mappingOf s m) n d) ≡ joinedBefore (m .node) counts d n
   rows-below d zero h = refl
   rows-below d (suc n) h =
       rows-append I (fibreBelow (mappingOf s m) n d) (consIf (eqb (nodeImage (mappingOf s m) n) d) n [])

@@ -109,7 +109,7 @@ module _ {s t : Schema} {sp tp : Paths} {m : Mapping} (h : Schemas s t sp tp) (k
   H = graphOf (t .graph)
 
   -- the lifts of q at c, by their numbers
-  pub lifts-are : (q : Path) → lifts S T F c q ≡ map (pathAt G) (filter (isOver (sp .start) over c (classOf T q)) (upto (sp .count)))
+  lifts-are : (q : Path) → lifts S T F c q ≡ map (pathAt G) (filter (isOver (sp .start) over c (classOf T q)) (upto (sp .count)))
   lifts-are q =
       ap (filter (λ p. equal T (pathImage F p) q)) (paths-from S (formed (h .source)) c l)
       ∙ filter-filter (λ p. eqb (p .start) c) (λ p. equal T (pathImage F p) q) (allPaths G)

@@ -44,7 +44,7 @@ module _ (s : Schema) where
       (record { short = h .limits .left .each q l; path = v .0 }, record { short = h .limits .right .each q l; path = v .1 })
 
   -- the number of a path
-  pub number-below : Sound s → (p : Path) → isPath (graphOf (s .graph)) p ≡ true → (numberOf (graphOf (s .graph)) p < pathCount (graphOf (s .graph))) × (pathAt (graphOf (s .graph)) (numberOf (graphOf (s .graph)) p) ≡ p)
+  number-below : Sound s → (p : Path) → isPath (graphOf (s .graph)) p ≡ true → (numberOf (graphOf (s .graph)) p < pathCount (graphOf (s .graph))) × (pathAt (graphOf (s .graph)) (numberOf (graphOf (s .graph)) p) ≡ p)
   number-below h p e =
       let m = allPaths-each (schemaOf s) (formed h) p .1 (path-iff (schemaOf s) (h .well-formed) (p .start) (p .edges) .0 e) in
       (number-in (graphOf (s .graph)) m, number-path (graphOf (s .graph)) m)

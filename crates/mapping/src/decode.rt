@@ -6,7 +6,6 @@ use bits::reader::lacks_at;
 use schema::Schema;
 use schema::decode::column;
 use schema::decode::small;
-ghost use mathlib.Core.Path.{_≡_};
 ghost use Prim.Native.Nat.{_*_, _≤_};
 ghost use Rattle.meaning.specs.Sheet.{onSheet};
 ghost use Rattle.meaning.specs.Formats.{readMapping};

@@ -5,10 +5,8 @@ use crate::images::index;
 use schema::Paths;
 use schema::Schema;
 ghost use mathlib.Core.Path.{_≡_};
-ghost use mathlib.Core.Bool.{_&&_};
 ghost use Prim.Native.Nat.{_≤_, _<_};
-ghost use lib.ListN.{getD, length};
-ghost use lib.Dec.{eqb};
+ghost use lib.ListN.{length};
 ghost use Rattle.meaning.specs.Lists.{upto, filter, all};
 ghost use Rattle.meaning.specs.Evenness.{even};
 ghost use Rattle.schema.specs.Decoded.{schemaOf};
@@ -65,7 +63,7 @@ fn lift_classes<'a>(
     lifts
 }
 
-// Whether each path from c has that class.
+// Whether each path from c has the class that lifts has over the class of its image.
 fn agree<'a>(
     start: &'a [u8; Schema::PATHS],
     class: &'a [u8; Schema::PATHS],
@@ -91,7 +89,7 @@ fn agree<'a>(
     true
 }
 
-// Whether each path of T from d has a path over it.
+// Whether lifts has a class over each path of T from d.
 fn met<'a>(
     start: &'a [u8; Schema::PATHS],
     class: &'a [u8; Schema::PATHS],
@@ -195,7 +193,7 @@ fn columns_even<'a>(
     true
 }
 
-// The same for each node of S.
+// Whether, for each node c of S, each attribute at its image is the image of exactly one at c.
 fn attributes_even(s: Schema, t: Schema, m: Mapping) -> bool
     requires { ⌜ (s .graph .nodes ≤ 16) × (s .attributes ≤ 16) × (t .attributes ≤ 16) ⌝ }
     ensures { λ r. ⌜ r ≡ all (evenColumnsAt s t m) (upto (s .graph .nodes)) ⌝ }

@@ -7,7 +7,6 @@ use schema::numbers::wide;
 use schema::walk::walk;
 ghost use mathlib.Core.Path.{_≡_};
 ghost use Prim.Native.Nat.{_<_, _≤_};
-ghost use lib.ListN.{getD};
 ghost use lib.Dec.{eqb};
 ghost use Rattle.meaning.specs.Lists.{all};
 ghost use Rattle.agreement.proofs.Paths.{numberOf};

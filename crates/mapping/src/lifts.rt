@@ -13,7 +13,7 @@ ghost use Rattle.mapping.specs.Even.{isOver};
 ghost use Rattle.mapping.specs.Judged.{Schemas, Sound};
 ghost use Rattle.mapping.specs.Lifts.{EdgeLifts, joinedBefore};
 
-// The first of n numbers at which home has c and image has b, or none.
+// The first of n numbers at which home has c and image has b, or the number none.
 // Of paths, where home has their starts and image the classes of their images, it is the lift of class b at c, with the trivial path c as none;
 // of attributes, where home has their nodes and image their images, the one at c over b, with none 0.
 pub fn first_over<'a>(home: &'a [u8], image: &'a [u8], n: usize, c: u8, b: u8, none: usize) -> usize
@@ -34,7 +34,7 @@ pub fn first_over<'a>(home: &'a [u8], image: &'a [u8], n: usize, c: u8, b: u8, n
 }
 
 // The class of an edge of T as a path, from its source d on.
-pub fn edge_class<'a>(
+fn edge_class<'a>(
     first: &'a [u16; 257],
     rank: &'a [u8; Schema::EDGES],
     class: &'a [u8; Schema::PATHS],
