@@ -1,6 +1,7 @@
 // The edges of a path, by its number in a table of paths.
 use crate::Image;
 use crate::images::index;
+use schema::Path;
 use schema::Paths;
 ghost use Prim.Native.Nat.{_≤_, _<_};
 ghost use lib.ListN.{getD};
@@ -11,7 +12,7 @@ pub fn path_edges(p: Paths, i: usize) -> Image
     requires { ⌜ (i < 256) × (getD (p .length) i 0 ≤ 15) ⌝ }
     ensures { λ r. ⌜ EdgesTaken p i r ⌝ }
 {
-    let mut edges = [0u8; 16];
+    let mut edges = [0u8; Path::EDGES];
     let n = index(p.length[i]);
     let mut k = n;
     let mut x = i;

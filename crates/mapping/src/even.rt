@@ -15,7 +15,10 @@ ghost use Rattle.mapping.specs.Decoded.{mappingOf};
 ghost use Rattle.mapping.specs.Judged.{Schemas, Sound, sideClass};
 ghost use Rattle.mapping.specs.Even.{liftClasses, agreesAt, metAt, evenPathsAt, isOver, evenColumnAt, evenColumnsAt};
 
-// A byte as a number that can also say 256.
+// What stands in place of a class where there is none: classes are below it.
+const NO_LIFT: u16 = 256;
+
+// A class as a number that can also be NO_LIFT.
 fn word(x: u8) -> u16
     ensures { λ r. ⌜ (r ≡ x) × (r < 256) ⌝ }
 {
@@ -39,7 +42,7 @@ pub fn image_classes<'a>(
     over
 }
 
-// For each class of T the class of a path from c over it; 256 where there is none.
+// For each class of T the class of a path from c over it; NO_LIFT where there is none.
 fn lift_classes<'a>(
     start: &'a [u8; Schema::PATHS],
     class: &'a [u8; Schema::PATHS],
@@ -50,7 +53,7 @@ fn lift_classes<'a>(
     requires { ⌜ count ≤ 256 ⌝ }
     ensures { λ r. ⌜ r ≡ liftClasses (now (start .entry)) (now (class .entry)) (now (over .entry)) c count ⌝ }
 {
-    let mut lifts = [256u16; Schema::PATHS];
+    let mut lifts = [NO_LIFT; Schema::PATHS];
     let mut i = 0;
     while i < count {
         let k = i;
@@ -106,7 +109,7 @@ fn met<'a>(
         j += 1;
         if start[k] == d {
             let x = index(class[k]);
-            if lifts[x] == 256 {
+            if lifts[x] == NO_LIFT {
                 return false;
             }
         }

@@ -55,7 +55,7 @@ pub fn path_images(s: Schema, t: Schema, sp: Paths, tp: Paths, m: Mapping) -> [u
 
 // The class of the image of a path, by the image of each path and the class of each image.
 fn side_class<'a>(
-    first: &'a [u16; 257],
+    first: &'a [u16; Schema::PATHS + 1],
     rank: &'a [u8; Schema::EDGES],
     path: &'a [u8; Mapping::PATHS],
     class: &'a [u8; Schema::PATHS],

@@ -7,6 +7,7 @@ pub mod fits;
 pub mod images;
 pub mod lifts;
 
+use schema::Path;
 use schema::Paths;
 use schema::Schema;
 ghost use mathlib.Core.Path.{_≡_};
@@ -18,7 +19,7 @@ ghost use Rattle.mapping.specs.Judged.{Schemas, testMapping, Says};
 // The image of an edge: edges of T, from the image of the edge's source on. Their number is a field of 4 bits.
 pub struct Image {
     pub length: usize,
-    pub edges: [u8; 16],
+    pub edges: [u8; Path::EDGES],
 }
 
 impl Image {
@@ -28,7 +29,7 @@ impl Image {
     {
         Image {
             length: 0,
-            edges: [0u8; 16],
+            edges: [0u8; Path::EDGES],
         }
     }
 }
@@ -51,7 +52,8 @@ impl Mapping {
 
     pub const PATHS: usize = Schema::PATHS;
 
-    pub const LIFTS: usize = 512;
+    // A place for each edge of T and each node of S.
+    pub const LIFTS: usize = Schema::EDGES * Schema::NODES;
 
     // A sheet sent back with a number.
     pub fn faulty(number: u8) -> Mapping

@@ -35,7 +35,7 @@ pub fn first_over<'a>(home: &'a [u8], image: &'a [u8], n: usize, c: u8, b: u8, n
 
 // The class of an edge of T as a path, from its source d on.
 fn edge_class<'a>(
-    first: &'a [u16; 257],
+    first: &'a [u16; Schema::PATHS + 1],
     rank: &'a [u8; Schema::EDGES],
     class: &'a [u8; Schema::PATHS],
     d: usize,
@@ -57,10 +57,10 @@ pub fn edge_lifts(s: Schema, t: Schema, sp: Paths, tp: Paths, m: Mapping) -> [u8
     let g = t.graph;
     let mut lifts = [0u8; Mapping::LIFTS];
     let mut i = 0;
-    while i < 16 * t.graph.edges {
+    while i < Schema::NODES * t.graph.edges {
         let k = i;
-        let e = k / 16;
-        let c = k % 16;
+        let e = k / Schema::NODES;
+        let c = k % Schema::NODES;
         i += 1;
         if c < s.graph.nodes {
             let d = m.node[c];
