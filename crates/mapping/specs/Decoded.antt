@@ -47,9 +47,9 @@ emptyMapping number = record { fault = number; node = replicate 16 0; edge = rep
 
 -- ---- what the decoders promise
 
-pub record ImageTaken (s : List ℕ) (at : ℕ) (r : ImageRead) : Type 0 where
-  pub says : readOf (r .cut) (imageOf (r .image)) (r .next) ≡ readEdges s at
-  pub inside : r .next ≤ 8 * length s
+pub record ImageTaken (sheet : List ℕ) (at : ℕ) (r : ImageRead) : Type 0 where
+  pub says : readOf (r .cut) (imageOf (r .image)) (r .next) ≡ readEdges sheet at
+  pub inside : r .next ≤ 8 * length sheet
   pub near : r .next ≤ at + 79
   pub short : r .image .length ≤ 15
 
@@ -57,9 +57,9 @@ pub record ImageTaken (s : List ℕ) (at : ℕ) (r : ImageRead) : Type 0 where
 pub record Short (n : ℕ) (l : List Image) : Type 0 where
   pub each : (i : ℕ) → i < n → getD l i noImage .length ≤ 15
 
-pub record ImagesTaken (s : List ℕ) (at n : ℕ) (r : ImagesRead) : Type 0 where
-  pub says : readOf (r .cut) (imagesOf n (r .edge)) (r .next) ≡ times n readEdges s at
-  pub inside : r .next ≤ 8 * length s
+pub record ImagesTaken (sheet : List ℕ) (at n : ℕ) (r : ImagesRead) : Type 0 where
+  pub says : readOf (r .cut) (imagesOf n (r .edge)) (r .next) ≡ times n readEdges sheet at
+  pub inside : r .next ≤ 8 * length sheet
   pub near : r .next ≤ at + 79 * n
   pub short : (r .cut ≡ false → Short n (r .edge))
 
