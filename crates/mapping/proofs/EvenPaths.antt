@@ -30,7 +30,7 @@ use Rattle.schema.specs.Classes.{IsPaths}
 use Rattle.mapping.specs.declared.Mapping.{Mapping}
 use Rattle.mapping.specs.Decoded.{mappingOf}
 use Rattle.mapping.specs.Judged.{Schemas, Imageable, Sound, sideClass}
-use Rattle.mapping.specs.Even.{liftClasses, agreesAt, metAt, evenPathsAt}
+use Rattle.mapping.specs.Even.{liftClasses, uniqueAt, hasLiftAt, evenPathsAt}
 use Rattle.mapping.proofs.Viewing.{node-at}
 use Rattle.mapping.proofs.Imaging.{image-path, image-below}
 use Rattle.mapping.proofs.ImageTable.{formed, images}
@@ -153,24 +153,24 @@ module _ {s t : Schema} {sp tp : Paths} {m : Mapping} (h : Schemas s t sp tp) (k
     abbrev classesOver : List ℕ
     classesOver = liftClasses (sp .start) (sp .class) over c (sp .count)
 
-    abbrev agrees : ℕ → Bool
-    agrees = agreesAt (sp .start) (sp .class) over classesOver c
+    abbrev unique : ℕ → Bool
+    unique = uniqueAt (sp .start) (sp .class) over classesOver c
 
-    abbrev meets : ℕ → Bool
-    meets = metAt (tp .start) (tp .class) classesOver (getD (m .node) c 0)
+    abbrev hasLift : ℕ → Bool
+    hasLift = hasLiftAt (tp .start) (tp .class) classesOver (getD (m .node) c 0)
 
     every : (i : ℕ) → i < sp .count → getD (sp .start) i 0 ≡ c → getD classesOver (getD over i 0) 0 ≡ 256 → ⊥
     every i b e = lifts-every (sp .start) (sp .class) over c (sp .count) i (class-low (h .source) (h .source-paths)) b (over-low i b) e
 
     -- ---- from the arrays
-    module _ (a : all agrees (upto (sp .count)) ≡ true) (e : all meets (upto (tp .count)) ≡ true) where
-      agrees-class : (p : Path) → List·Memᴰ p (pathsFrom (S .graph) c) → classOf S p ≡ getD classesOver (classOf T (pathImage F p)) 0
-      agrees-class p i =
+    module _ (a : all unique (upto (sp .count)) ≡ true) (e : all hasLift (upto (tp .count)) ≡ true) where
+      unique-class : (p : Path) → List·Memᴰ p (pathsFrom (S .graph) c) → classOf S p ≡ getD classesOver (classOf T (pathImage F p)) 0
+      unique-class p i =
           let n = numbered (h .source) (h .source-paths) c l p i in
           let x = n .number in
           let u : getD classesOver (getD over x 0) 0 ≡ getD (sp .class) x 0 =
           eqb-true (getD classesOver (getD over x 0) 0) (getD (sp .class) x 0)
-          (subst (λ (b : Bool). cond b (eqb (getD classesOver (getD over x 0) 0) (getD (sp .class) x 0)) true ≡ true) (eq-eqb (getD (sp .start) x 0) c (n .starts)) (upto-all agrees (sp .count) a x (n .below))) in
+          (subst (λ (b : Bool). cond b (eqb (getD classesOver (getD over x 0) 0) (getD (sp .class) x 0)) true ≡ true) (eq-eqb (getD (sp .start) x 0) c (n .starts)) (upto-all unique (sp .count) a x (n .below))) in
           subst (λ (w : Path). classOf S w ≡ getD classesOver (classOf T (pathImage F w)) 0) (n .is)
           (sym (class-at (h .source) (h .source-paths) x (n .below)) ∙ sym u ∙ ap (λ (y : ℕ). getD classesOver y 0) (over-at x (n .below)))
 
@@ -179,7 +179,7 @@ module _ {s t : Schema} {sp tp : Paths} {m : Mapping} (h : Schemas s t sp tp) (k
           let n = numbered (h .target) (h .target-paths) d d-in q i in
           let y = n .number in
           let u : not (eqb (getD classesOver (getD (tp .class) y 0) 0) 256) ≡ true =
-          subst (λ (b : Bool). cond b (not (eqb (getD classesOver (getD (tp .class) y 0) 0) 256)) true ≡ true) (eq-eqb (getD (tp .start) y 0) (getD (m .node) c 0) (n .starts ∙ node-at s m c l)) (upto-all meets (tp .count) e y (n .below)) in
+          subst (λ (b : Bool). cond b (not (eqb (getD classesOver (getD (tp .class) y 0) 0) 256)) true ≡ true) (eq-eqb (getD (tp .start) y 0) (getD (m .node) c 0) (n .starts ∙ node-at s m c l)) (upto-all hasLift (tp .count) e y (n .below)) in
           let v = lifts-some (sp .start) (sp .class) over c (sp .count) (getD (tp .class) y 0) (class-low (h .target) (h .target-paths) y (n .below))
           (λ z. is-not (eqb (getD classesOver (getD (tp .class) y 0) 0) 256) u (eq-eqb (getD classesOver (getD (tp .class) y 0) 0) 256 z)) in
           let x = v .number in (
@@ -192,7 +192,7 @@ module _ {s t : Schema} {sp tp : Paths} {m : Mapping} (h : Schemas s t sp tp) (k
       one-lift q i = same-oneClass S (lifts S T F c q) (some-lift q i .1) (λ p r x y.
           let u = over-of c q p x in
           let v = over-of c q r y in
-          agrees-class p (u .0) ∙ ap (λ (z : ℕ). getD classesOver z 0) (u .1 ∙ sym (v .1)) ∙ sym (agrees-class r (v .0)))
+          unique-class p (u .0) ∙ ap (λ (z : ℕ). getD classesOver z 0) (u .1 ∙ sym (v .1)) ∙ sym (unique-class r (v .0)))
 
     -- ---- to the arrays
     module _ (e : all (λ q. oneClass S (lifts S T F c q)) (pathsFrom (T .graph) d) ≡ true) where
@@ -202,8 +202,8 @@ module _ {s t : Schema} {sp tp : Paths} {m : Mapping} (h : Schemas s t sp tp) (k
           let w = pathsFrom-each S (formed (h .source)) c l p .0 (from-table (h .source) (h .source-paths) c x l b z) in
           pathsFrom-each T (formed (h .target)) d d-in (pathImage F p) .1 (ap (nodeImage F) (w .0), image-path (formed (h .source)) (formed (h .target)) (images passed) c (p .edges) (w .1))
 
-      each-agrees : (x : ℕ) → x < sp .count → agrees x ≡ true
-      each-agrees x b = cond-is (eqb (getD (sp .start) x 0) c) (eqb (getD classesOver (getD over x 0) 0) (getD (sp .class) x 0)) (λ z.
+      each-unique : (x : ℕ) → x < sp .count → unique x ≡ true
+      each-unique x b = cond-is (eqb (getD (sp .start) x 0) c) (eqb (getD classesOver (getD over x 0) 0) (getD (sp .class) x 0)) (λ z.
           let st = eqb-true (getD (sp .start) x 0) c z in
           let q = pathImage F (pathAt (S .graph) x) in
           let v = lifts-some (sp .start) (sp .class) over c (sp .count) (getD over x 0) (over-low x b) (every x b st) in
@@ -215,8 +215,8 @@ module _ {s t : Schema} {sp tp : Paths} {m : Mapping} (h : Schemas s t sp tp) (k
           eq-eqb (getD classesOver (getD over x 0) 0) (getD (sp .class) x 0)
           (sym (v .has) ∙ class-at (h .source) (h .source-paths) y (v .below) ∙ same ∙ sym (class-at (h .source) (h .source-paths) x b)))
 
-      each-meets : (y : ℕ) → y < tp .count → meets y ≡ true
-      each-meets y b = cond-is (eqb (getD (tp .start) y 0) (getD (m .node) c 0)) (not (eqb (getD classesOver (getD (tp .class) y 0) 0) 256)) (λ z.
+      each-has-lift : (y : ℕ) → y < tp .count → hasLift y ≡ true
+      each-has-lift y b = cond-is (eqb (getD (tp .start) y 0) (getD (m .node) c 0)) (not (eqb (getD classesOver (getD (tp .class) y 0) 0) 256)) (λ z.
           let st : getD (tp .start) y 0 ≡ d = eqb-true (getD (tp .start) y 0) (getD (m .node) c 0) z ∙ sym (node-at s m c l) in
           let q = pathAt (T .graph) y in
           let p = oneClass-some S (lifts S T F c q) (all-of (λ (q : Path). oneClass S (lifts S T F c q)) (pathsFrom (T .graph) d) e (from-table (h .target) (h .target-paths) d y d-in b st)) in
@@ -228,6 +228,6 @@ module _ {s t : Schema} {sp tp : Paths} {m : Mapping} (h : Schemas s t sp tp) (k
           every x (n .below) (n .starts) (ap (λ (w : ℕ). getD classesOver w 0) f ∙ eqb-true (getD classesOver (getD (tp .class) y 0) 0) 256 r)))
 
     pub even-paths : evenPathsAt sp tp over (m .node) c ≡ all (λ q. oneClass S (lifts S T F c q)) (pathsFrom (T .graph) d)
-    even-paths = both-ways (all agrees (upto (sp .count)) && all meets (upto (tp .count))) (all (λ q. oneClass S (lifts S T F c q)) (pathsFrom (T .graph) d))
-        (λ e. let u = and-both (all agrees (upto (sp .count))) (all meets (upto (tp .count))) e in all-in (λ (q : Path). oneClass S (lifts S T F c q)) (pathsFrom (T .graph) d) (λ q i. one-lift (u .0) (u .1) q i))
-        (λ e. and-intro (all-upto agrees (sp .count) (each-agrees e)) (all-upto meets (tp .count) (each-meets e)))
+    even-paths = both-ways (all unique (upto (sp .count)) && all hasLift (upto (tp .count))) (all (λ q. oneClass S (lifts S T F c q)) (pathsFrom (T .graph) d))
+        (λ e. let u = and-both (all unique (upto (sp .count))) (all hasLift (upto (tp .count))) e in all-in (λ (q : Path). oneClass S (lifts S T F c q)) (pathsFrom (T .graph) d) (λ q i. one-lift (u .0) (u .1) q i))
+        (λ e. and-intro (all-upto unique (sp .count) (each-unique e)) (all-upto hasLift (tp .count) (each-has-lift e)))

@@ -13,13 +13,13 @@ ghost use Rattle.schema.specs.Decoded.{schemaOf};
 ghost use Rattle.schema.specs.Table.{Filled};
 ghost use Rattle.mapping.specs.Decoded.{mappingOf};
 ghost use Rattle.mapping.specs.Judged.{Schemas, Sound, sideClass};
-ghost use Rattle.mapping.specs.Even.{liftClasses, agreesAt, metAt, evenPathsAt, isOver, evenColumnAt, evenColumnsAt};
+ghost use Rattle.mapping.specs.Even.{liftClasses, uniqueAt, hasLiftAt, evenPathsAt, isOver, evenColumnAt, evenColumnsAt};
 
 // What stands in place of a class where there is none: classes are below it.
 const NO_LIFT: u16 = 256;
 
 // A class as a number that can also be NO_LIFT.
-fn word(x: u8) -> u16
+fn as_u16(x: u8) -> u16
     ensures { λ r. ⌜ (r ≡ x) × (r < 256) ⌝ }
 {
     x as u16
@@ -60,14 +60,14 @@ fn lift_classes<'a>(
         i += 1;
         if start[k] == c {
             let x = index(over[k]);
-            lifts[x] = word(class[k]);
+            lifts[x] = as_u16(class[k]);
         }
     }
     lifts
 }
 
 // Whether each path from c has the class that lifts has over the class of its image.
-fn agree<'a>(
+fn lifts_unique<'a>(
     start: &'a [u8; Schema::PATHS],
     class: &'a [u8; Schema::PATHS],
     over: &'a [u8; Mapping::PATHS],
@@ -76,7 +76,7 @@ fn agree<'a>(
     c: u8,
 ) -> bool
     requires { ⌜ count ≤ 256 ⌝ }
-    ensures { λ r. ⌜ r ≡ all (agreesAt (now (start .entry)) (now (class .entry)) (now (over .entry)) (now (lifts .entry)) c) (upto count) ⌝ }
+    ensures { λ r. ⌜ r ≡ all (uniqueAt (now (start .entry)) (now (class .entry)) (now (over .entry)) (now (lifts .entry)) c) (upto count) ⌝ }
 {
     let mut i = 0;
     while i < count {
@@ -84,7 +84,7 @@ fn agree<'a>(
         i += 1;
         if start[k] == c {
             let x = index(over[k]);
-            if lifts[x] != word(class[k]) {
+            if lifts[x] != as_u16(class[k]) {
                 return false;
             }
         }
@@ -93,7 +93,7 @@ fn agree<'a>(
 }
 
 // Whether lifts has a class over each path of T from d.
-fn met<'a>(
+fn each_has_lift<'a>(
     start: &'a [u8; Schema::PATHS],
     class: &'a [u8; Schema::PATHS],
     lifts: &'a [u16; Schema::PATHS],
@@ -101,7 +101,7 @@ fn met<'a>(
     d: u8,
 ) -> bool
     requires { ⌜ count ≤ 256 ⌝ }
-    ensures { λ r. ⌜ r ≡ all (metAt (now (start .entry)) (now (class .entry)) (now (lifts .entry)) d) (upto count) ⌝ }
+    ensures { λ r. ⌜ r ≡ all (hasLiftAt (now (start .entry)) (now (class .entry)) (now (lifts .entry)) d) (upto count) ⌝ }
 {
     let mut j = 0;
     while j < count {
@@ -132,8 +132,8 @@ fn paths_even<'a>(
     while i < nodes {
         let c = i as u8;
         let lifts = lift_classes(&sp.start, &sp.class, over, sp.count, c);
-        if agree(&sp.start, &sp.class, over, &lifts, sp.count, c) {
-            if met(&tp.start, &tp.class, &lifts, tp.count, node[i]) {
+        if lifts_unique(&sp.start, &sp.class, over, &lifts, sp.count, c) {
+            if each_has_lift(&tp.start, &tp.class, &lifts, tp.count, node[i]) {
                 i += 1;
             } else {
                 return false;
@@ -175,19 +175,19 @@ fn columns_even<'a>(
     home: &'a [u8; Schema::ATTRIBUTES],
     image: &'a [u8; Mapping::ATTRIBUTES],
     n: usize,
-    there: &'a [u8; Schema::ATTRIBUTES],
+    target_home: &'a [u8; Schema::ATTRIBUTES],
     count: usize,
     c: u8,
     d: u8,
 ) -> bool
     requires { ⌜ (n ≤ 16) × (count ≤ 16) ⌝ }
-    ensures { λ r. ⌜ r ≡ all (evenColumnAt (now (home .entry)) (now (image .entry)) n (now (there .entry)) c d) (upto count) ⌝ }
+    ensures { λ r. ⌜ r ≡ all (evenColumnAt (now (home .entry)) (now (image .entry)) n (now («target_home» .entry)) c d) (upto count) ⌝ }
 {
     let mut b = 0;
     while b < count {
         let k = b;
         b += 1;
-        if there[k] == d {
+        if target_home[k] == d {
             if count_over(home, image, n, c, k as u8) != 1 {
                 return false;
             }

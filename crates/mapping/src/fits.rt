@@ -46,9 +46,9 @@ fn image_fits(g: Graph, image: Image, start: u8, end: u8) -> bool
         length: image.length,
         edges: edges,
     };
-    let trip = follow(g, path);
-    if trip.joins {
-        return trip.last == end;
+    let followed = follow(g, path);
+    if followed.joins {
+        return followed.last == end;
     }
     false
 }
@@ -80,15 +80,15 @@ fn attribute_fits<'a>(
     kind: &'a [u8; Schema::ATTRIBUTES],
     count: usize,
     b: usize,
-    home: u8,
-    like: u8,
+    at_node: u8,
+    of_kind: u8,
 ) -> bool
     requires { ⌜ count ≤ 16 ⌝ }
-    ensures { λ r. ⌜ r ≡ (ltb b count && eqb (getD (now (kind .entry)) b 0) like && eqb (getD (now (node .entry)) b 0) home) ⌝ }
+    ensures { λ r. ⌜ r ≡ (ltb b count && eqb (getD (now (kind .entry)) b 0) «of_kind» && eqb (getD (now (node .entry)) b 0) «at_node») ⌝ }
 {
     if b < count {
-        if kind[b] == like {
-            return node[b] == home;
+        if kind[b] == of_kind {
+            return node[b] == at_node;
         }
     }
     false

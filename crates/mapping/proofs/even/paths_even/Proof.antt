@@ -23,14 +23,14 @@ cast-c c = let f = c .before .before .pre .0 in omega arith
 lift-classes-requires : tie.Need-lift-classes-requires Inv-loop μ-loop
 lift-classes-requires c κs = c .before .before .before .before .before .pre .1
 
-agree-requires : tie.Need-agree-requires Inv-loop μ-loop
-agree-requires c κs = c .before .before .before .before .before .before .before .before .before .before .pre .1
+lifts-unique-requires : tie.Need-lifts-unique-requires Inv-loop μ-loop
+lifts-unique-requires c κs = c .before .before .before .before .before .before .before .before .before .before .pre .1
 
-element-copy-out-met : tie.Need-element-copy-out-met Inv-loop μ-loop
-element-copy-out-met c = let f = c .before .before .before .before .before .before .before .before .before .before .before .before .before .before .before .before .pre .0 in let l = c .before .before .before .before .before .before .before .before .before .before .before .before .before .before .loop-test .taken in omega arith
+element-copy-out-each-has-lift : tie.Need-element-copy-out-each-has-lift Inv-loop μ-loop
+element-copy-out-each-has-lift c = let f = c .before .before .before .before .before .before .before .before .before .before .before .before .before .before .before .before .pre .0 in let l = c .before .before .before .before .before .before .before .before .before .before .before .before .before .before .loop-test .taken in omega arith
 
-met-requires : tie.Need-met-requires Inv-loop μ-loop
-met-requires c κs = c .before .before .before .before .before .before .before .before .before .before .before .before .before .before .before .before .before .pre .2
+each-has-lift-requires : tie.Need-each-has-lift-requires Inv-loop μ-loop
+each-has-lift-requires c κs = c .before .before .before .before .before .before .before .before .before .before .before .before .before .before .before .before .before .pre .2
 
 add-i : tie.Need-add-i Inv-loop μ-loop
 add-i c = let f = c .before .before .before .before .before .before .before .before .before .before .before .before .before .before .before .before .before .before .before .pre .0 in let l = c .before .before .before .before .before .before .before .before .before .before .before .before .before .before .before .before .before .loop-test .taken in omega arith
@@ -39,17 +39,17 @@ loop-less : tie.Need-loop-less Inv-loop μ-loop
 loop-less c = let l = c .before .before .before .before .before .before .before .before .before .before .before .before .before .before .before .before .before .loop-test .taken in omega arith
 
 loop-again : tie.Need-loop-again Inv-loop μ-loop
-loop-again c = passed-more (c .before .before .before .before .before .before .before .before .before .before .before .before .before .before .before .before .before .before .loop .inv) (c .before .before .before .before .before .before .before .before .before .before .before .before .before .before .before .before .before .loop-test .taken) (rw (← c .before .before .before .before .before .before .before .before .before .before .before .before .before .lift-classes .ensures, sym (c .before .before .before .before .before .before .before .before .agree .ensures) ∙ c .before .before .before .before .before .before .before .if1 .taken, sym (c .before .met .ensures) ∙ c .if2 .taken))
+loop-again c = passed-more (c .before .before .before .before .before .before .before .before .before .before .before .before .before .before .before .before .before .before .loop .inv) (c .before .before .before .before .before .before .before .before .before .before .before .before .before .before .before .before .before .loop-test .taken) (rw (← c .before .before .before .before .before .before .before .before .before .before .before .before .before .lift-classes .ensures, sym (c .before .before .before .before .before .before .before .before .lifts-unique .ensures) ∙ c .before .before .before .before .before .before .before .if1 .taken, sym (c .before .each-has-lift .ensures) ∙ c .if2 .taken))
 
 returns : tie.Need-returns Inv-loop μ-loop
 returns c =
     sym (upto-fail (c .before .before .before .before .before .before .before .before .before .before .before .before .before .before .before .before .before .before .loop .inv) (c .before .before .before .before .before .before .before .before .before .before .before .before .before .before .before .before .before .loop-test .taken)
-    (rw (← c .before .before .before .before .before .before .before .before .before .before .before .before .before .lift-classes .ensures, sym (c .before .before .before .before .before .before .before .before .agree .ensures) ∙ c .before .before .before .before .before .before .before .if1 .taken, sym (c .before .met .ensures) ∙ c .if2 .left)))
+    (rw (← c .before .before .before .before .before .before .before .before .before .before .before .before .before .lift-classes .ensures, sym (c .before .before .before .before .before .before .before .before .lifts-unique .ensures) ∙ c .before .before .before .before .before .before .before .if1 .taken, sym (c .before .each-has-lift .ensures) ∙ c .if2 .left)))
 
 returns-2 : tie.Need-returns-2 Inv-loop μ-loop
 returns-2 c =
     sym (upto-fail (c .before .before .before .before .before .before .before .before .before .before .before .loop .inv) (c .before .before .before .before .before .before .before .before .before .before .loop-test .taken)
-    (rw (← c .before .before .before .before .before .before .lift-classes .ensures, sym (c .before .agree .ensures) ∙ c .if1 .left)))
+    (rw (← c .before .before .before .before .before .before .lift-classes .ensures, sym (c .before .lifts-unique .ensures) ∙ c .if1 .left)))
 
 returns-3 : tie.Need-returns-3 Inv-loop μ-loop
 returns-3 c = let a = c .before .before .args in sym (upto-done (c .before .loop .inv) (c .loop-test .left))
@@ -63,9 +63,9 @@ paths-even-spec =
     loop-holds
     cast-c
     lift-classes-requires
-    agree-requires
-    element-copy-out-met
-    met-requires
+    lifts-unique-requires
+    element-copy-out-each-has-lift
+    each-has-lift-requires
     add-i
     loop-less
     loop-again
