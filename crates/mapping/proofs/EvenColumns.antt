@@ -44,9 +44,9 @@ module _ (s t : Schema) (m : Mapping) where
       ∙ all-upto (λ b. cond (eqb (attributeAt T b .node) (nodeImage F c)) (one c b) true) (evenColumnAt (s .node) (m .attribute) (s .attributes) (t .node) c (getD (m .node) c 0)) (t .attributes)
       (λ b k. rw (attribute-is t b k, node-at s m c l, attributes-over s m c b)))
 
-  pub even-by : {sp tp : Paths} {over : List ℕ} → Schemas s t sp tp → Sound s t sp m → Filled 256 (sideClass (m .path) (tp .class)) 256 over →
-      even S T F ≡ (all (evenPathsAt sp tp over (m .node)) (upto (s .graph .nodes)) && all (evenColumnsAt s t m) (upto (s .graph .nodes)))
-  even-by {sp} {tp} {over} h k o =
-      all-upto (evenAt S T F) (λ c. evenPathsAt sp tp over (m .node) c && evenColumnsAt s t m c) (s .graph .nodes)
+  pub even-by : {source-paths target-paths : Paths} {over : List ℕ} → Schemas s t source-paths target-paths → Sound s t source-paths m → Filled 256 (sideClass (m .path) (target-paths .class)) 256 over →
+      even S T F ≡ (all (evenPathsAt source-paths target-paths over (m .node)) (upto (s .graph .nodes)) && all (evenColumnsAt s t m) (upto (s .graph .nodes)))
+  even-by {source-paths} {target-paths} {over} h k o =
+      all-upto (evenAt S T F) (λ c. evenPathsAt source-paths target-paths over (m .node) c && evenColumnsAt s t m c) (s .graph .nodes)
       (λ c l. rw (even-paths h k o c l, even-columns c l))
-      ∙ all-both (evenPathsAt sp tp over (m .node)) (evenColumnsAt s t m) (upto (s .graph .nodes))
+      ∙ all-both (evenPathsAt source-paths target-paths over (m .node)) (evenColumnsAt s t m) (upto (s .graph .nodes))

@@ -10,7 +10,7 @@ use Rattle.mapping.specs.declared.Mapping.{Mapping}
 use Rattle.mapping.specs.Decoded.{emptyMapping, mappingOf, Decoded}
 use Rattle.mapping.specs.Judged.{Says}
 
-pub faulty-says : {s t : Schema} {sp : Paths} {m : Mapping} {k : ℕ} {J : Judged formats.Mapping} → m ≡ emptyMapping k → (k ≡ 0 → ⊥) → J ≡ faulty k → Says s t sp m J
+pub faulty-says : {s t : Schema} {source-paths : Paths} {m : Mapping} {k : ℕ} {J : Judged formats.Mapping} → m ≡ emptyMapping k → (k ≡ 0 → ⊥) → J ≡ faulty k → Says s t source-paths m J
 faulty-says {k} e some h = rw (e, h) (record { says = rw (ne-eqb k 0 some); sound = λ q. absurd (some q) })
 
 module _ {s : Schema} {m : Mapping} {J : Judged formats.Mapping} (d : Decoded s m J) where

@@ -26,9 +26,9 @@ abbrev pub hasLiftAt : List ℕ → List ℕ → List ℕ → ℕ → ℕ → Bo
 hasLiftAt start class lifts d k = cond (eqb (getD start k 0) d) (not (eqb (getD lifts (getD class k 0) 0) 256)) true
 
 abbrev pub evenPathsAt : Paths → Paths → List ℕ → List ℕ → ℕ → Bool
-evenPathsAt sp tp over node c =
-    all (uniqueAt (sp .start) (sp .class) over (liftClasses (sp .start) (sp .class) over c (sp .count)) c) (upto (sp .count)) &&
-    all (hasLiftAt (tp .start) (tp .class) (liftClasses (sp .start) (sp .class) over c (sp .count)) (getD node c 0)) (upto (tp .count))
+evenPathsAt source-paths target-paths over node c =
+    all (uniqueAt (source-paths .start) (source-paths .class) over (liftClasses (source-paths .start) (source-paths .class) over c (source-paths .count)) c) (upto (source-paths .count)) &&
+    all (hasLiftAt (target-paths .start) (target-paths .class) (liftClasses (source-paths .start) (source-paths .class) over c (source-paths .count)) (getD node c 0)) (upto (target-paths .count))
 
 -- ---- attributes
 

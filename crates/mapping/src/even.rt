@@ -120,20 +120,39 @@ fn each_has_lift<'a>(
 // Whether each path of T from the image of a node has one lift at that node, for each of the nodes; over has the class of the image of each path.
 fn paths_even<'a>(
     nodes: usize,
-    sp: Paths,
-    tp: Paths,
+    source_paths: Paths,
+    target_paths: Paths,
     over: &'a [u8; Mapping::PATHS],
     node: &'a [u8; Mapping::NODES],
 ) -> bool
-    requires { ⌜ (nodes ≤ 16) × (sp .count ≤ 256) × (tp .count ≤ 256) ⌝ }
-    ensures { λ r. ⌜ r ≡ all (evenPathsAt sp tp (now (over .entry)) (now (node .entry))) (upto nodes) ⌝ }
+    requires { ⌜ (nodes ≤ 16) × («source_paths» .count ≤ 256) × («target_paths» .count ≤ 256) ⌝ }
+    ensures { λ r. ⌜ r ≡ all (evenPathsAt «source_paths» «target_paths» (now (over .entry)) (now (node .entry))) (upto nodes) ⌝ }
 {
     let mut i = 0;
     while i < nodes {
         let c = i as u8;
-        let lifts = lift_classes(&sp.start, &sp.class, over, sp.count, c);
-        if lifts_unique(&sp.start, &sp.class, over, &lifts, sp.count, c) {
-            if each_has_lift(&tp.start, &tp.class, &lifts, tp.count, node[i]) {
+        let lifts = lift_classes(
+            &source_paths.start,
+            &source_paths.class,
+            over,
+            source_paths.count,
+            c,
+        );
+        if lifts_unique(
+            &source_paths.start,
+            &source_paths.class,
+            over,
+            &lifts,
+            source_paths.count,
+            c,
+        ) {
+            if each_has_lift(
+                &target_paths.start,
+                &target_paths.class,
+                &lifts,
+                target_paths.count,
+                node[i],
+            ) {
                 i += 1;
             } else {
                 return false;
@@ -222,12 +241,12 @@ fn attributes_even(s: Schema, t: Schema, m: Mapping) -> bool
     true
 }
 
-pub fn is_even(s: Schema, t: Schema, sp: Paths, tp: Paths, m: Mapping) -> bool
-    requires { ⌜ Schemas s t sp tp × Sound s t sp m ⌝ }
+pub fn is_even(s: Schema, t: Schema, source_paths: Paths, target_paths: Paths, m: Mapping) -> bool
+    requires { ⌜ Schemas s t «source_paths» «target_paths» × Sound s t «source_paths» m ⌝ }
     ensures { λ r. ⌜ r ≡ even (schemaOf s) (schemaOf t) (mappingOf s m) ⌝ }
 {
-    let over = image_classes(&m.path, &tp.class);
-    if paths_even(s.graph.nodes, sp, tp, &over, &m.node) {
+    let over = image_classes(&m.path, &target_paths.class);
+    if paths_even(s.graph.nodes, source_paths, target_paths, &over, &m.node) {
         return attributes_even(s, t, m);
     }
     false

@@ -71,14 +71,14 @@ impl Mapping {
 }
 
 // Tests 7 and 8.
-fn tested(s: Schema, t: Schema, sp: Paths, tp: Paths, m: Mapping) -> Mapping
-    requires { ⌜ Schemas s t sp tp × Short (s .graph .edges) (m .edge) ⌝ }
-    ensures { λ r. ⌜ Says s t sp r (testMapping (schemaOf s) (schemaOf t) (mappingOf s m)) ⌝ }
+fn tested(s: Schema, t: Schema, source_paths: Paths, target_paths: Paths, m: Mapping) -> Mapping
+    requires { ⌜ Schemas s t «source_paths» «target_paths» × Short (s .graph .edges) (m .edge) ⌝ }
+    ensures { λ r. ⌜ Says s t «source_paths» r (testMapping (schemaOf s) (schemaOf t) (mappingOf s m)) ⌝ }
 {
     if fits::images_fit(s, t, m) {
-        let path = images::path_images(s, t, sp, tp, m);
-        let class = tp.class;
-        if images::sides_agree(s, sp, &path, &class) {
+        let path = images::path_images(s, t, source_paths, target_paths, m);
+        let class = target_paths.class;
+        if images::sides_agree(s, source_paths, &path, &class) {
             let node = m.node;
             let edge = m.edge;
             let attribute = m.attribute;
@@ -96,14 +96,20 @@ fn tested(s: Schema, t: Schema, sp: Paths, tp: Paths, m: Mapping) -> Mapping
 }
 
 // A mapping sheet judged, between two schemas with their tables of paths: what it says, or the first number that applies to it.
-pub fn judge_mapping(s: Schema, t: Schema, sp: Paths, tp: Paths, sheet: &[u8]) -> Mapping
-    requires { ⌜ Schemas s t sp tp ⌝ }
-    ensures { λ r. ⌜ Says s t sp r (judgeMapping (schemaOf s) (schemaOf t) (now (sheet .entry))) ⌝ }
+pub fn judge_mapping(
+    s: Schema,
+    t: Schema,
+    source_paths: Paths,
+    target_paths: Paths,
+    sheet: &[u8],
+) -> Mapping
+    requires { ⌜ Schemas s t «source_paths» «target_paths» ⌝ }
+    ensures { λ r. ⌜ Says s t «source_paths» r (judgeMapping (schemaOf s) (schemaOf t) (now (sheet .entry))) ⌝ }
 {
     let m = decode::decode_mapping(s, sheet);
     let fault = m.fault;
     if fault == 0 {
-        return tested(s, t, sp, tp, m);
+        return tested(s, t, source_paths, target_paths, m);
     }
     Mapping::faulty(fault)
 }

@@ -49,11 +49,17 @@ fn edge_class<'a>(
 }
 
 // For each edge e of T and each node c of S at whose image it begins, at 16 * e + c: the number of the first path from c over e, or c.
-pub fn edge_lifts(s: Schema, t: Schema, sp: Paths, tp: Paths, m: Mapping) -> [u8; Mapping::LIFTS]
-    requires { ⌜ Schemas s t sp tp × Sound s t sp m ⌝ }
-    ensures { λ r. ⌜ EdgeLifts s t sp m (16 * t .graph .edges) r ⌝ }
+pub fn edge_lifts(
+    s: Schema,
+    t: Schema,
+    source_paths: Paths,
+    target_paths: Paths,
+    m: Mapping,
+) -> [u8; Mapping::LIFTS]
+    requires { ⌜ Schemas s t «source_paths» «target_paths» × Sound s t «source_paths» m ⌝ }
+    ensures { λ r. ⌜ EdgeLifts s t «source_paths» m (16 * t .graph .edges) r ⌝ }
 {
-    let over = image_classes(&m.path, &tp.class);
+    let over = image_classes(&m.path, &target_paths.class);
     let g = t.graph;
     let mut lifts = [0u8; Mapping::LIFTS];
     let mut i = 0;
@@ -65,8 +71,21 @@ pub fn edge_lifts(s: Schema, t: Schema, sp: Paths, tp: Paths, m: Mapping) -> [u8
         if c < s.graph.nodes {
             let d = m.node[c];
             if g.source[e] == d {
-                let b = edge_class(&tp.first, &tp.rank, &tp.class, wide(d), e);
-                lifts[k] = first_over(&sp.start, &over, sp.count, c as u8, b, c) as u8;
+                let b = edge_class(
+                    &target_paths.first,
+                    &target_paths.rank,
+                    &target_paths.class,
+                    wide(d),
+                    e,
+                );
+                lifts[k] = first_over(
+                    &source_paths.start,
+                    &over,
+                    source_paths.count,
+                    c as u8,
+                    b,
+                    c,
+                ) as u8;
             }
         }
     }

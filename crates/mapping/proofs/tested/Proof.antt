@@ -12,7 +12,7 @@ use borrow.Author.Needs.{needs}
 use Rattle.mapping.proofs.tested.Statement.{statement}
 use Rattle.mapping.proofs.tested.Tie as tie
 
-passed : (c : tie.Then1) → Imageable (c .before .before .args .s) (c .before .before .args .t) (c .before .before .args .sp) (c .before .before .args .tp) (c .before .before .args .m)
+passed : (c : tie.Then1) → Imageable (c .before .before .args .s) (c .before .before .args .t) (c .before .before .args .source-paths) (c .before .before .args .target-paths) (c .before .before .args .m)
 passed c = record { schemas = c .before .before .pre .0; short = c .before .before .pre .1; fits = sym (c .before .images-fit .ensures) ∙ c .if1 .taken }
 
 images-fit-requires : tie.Need-images-fit-requires

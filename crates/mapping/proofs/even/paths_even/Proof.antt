@@ -9,10 +9,10 @@ use Rattle.mapping.proofs.even.paths_even.Statement.{statement}
 use Rattle.mapping.proofs.even.paths_even.Tie as tie
 
 abbrev Inv-loop : tie.InvT-loop
-Inv-loop nodes over node sp tp i₀ i = Passed (evenPathsAt sp tp over node) nodes (λ k. k) i
+Inv-loop nodes over node source-paths target-paths i₀ i = Passed (evenPathsAt source-paths target-paths over node) nodes (λ k. k) i
 
 abbrev μ-loop : tie.MeasureT-loop
-μ-loop nodes over node sp tp i₀ i = nodes - i
+μ-loop nodes over node source-paths target-paths i₀ i = nodes - i
 
 loop-holds : tie.Need-loop-holds Inv-loop μ-loop
 loop-holds c = passed-start _ _ _
