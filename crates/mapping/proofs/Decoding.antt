@@ -58,7 +58,7 @@ module _ (s : Schema) (sheet : List ℕ) where
     nodes-read : times n (field 4) sheet 0 ≡ reads (numbersIn sheet 0 n) (4 * n)
     nodes-read = fixed-times n (fixed-field 4) .here sheet 0 (omega arith) ∙ ap (reads (numbersIn sheet 0 n)) (omega arith)
 
-    pub mapping-fails : {f : ℕ} → times k readEdges sheet (4 * n) ≡ fails f → readMapping (schemaOf s) sheet 0 ≡ fails f
+    pub mapping-fails : {number : ℕ} → times k readEdges sheet (4 * n) ≡ fails number → readMapping (schemaOf s) sheet 0 ≡ fails number
     mapping-fails e = rw (nodes-read, edges-are, e)
 
     module _ {images : List (List ℕ)} {q : ℕ} (e : times k readEdges sheet (4 * n) ≡ reads images q) where
@@ -78,5 +78,5 @@ empty-lengths zero e = refl
 empty-lengths (suc n) zero = refl
 empty-lengths (suc n) (suc e) = empty-lengths n e
 
-pub faulty-decoded : {s : Schema} {m : declared.Mapping} {f : ℕ} {J : Judged Mapping} → m ≡ emptyMapping (suc f) → J ≡ faulty (suc f) → Decoded s m J
-faulty-decoded {f} e h = rw (e, h) (record { says = rw (ne-eqb (suc f) 0 (λ q. omega arith)); short = record { each = λ e l. omega (arith, empty-lengths 32 e) } })
+pub faulty-decoded : {s : Schema} {f : declared.Mapping} {number : ℕ} {J : Judged Mapping} → f ≡ emptyMapping (suc number) → J ≡ faulty (suc number) → Decoded s f J
+faulty-decoded {number} e h = rw (e, h) (record { says = rw (ne-eqb (suc number) 0 (λ q. omega arith)); short = record { each = λ e l. omega (arith, empty-lengths 32 e) } })

@@ -111,7 +111,7 @@ module _ {s : Schema} {p : Paths} (sound : schemas.Sound s) (t : IsPaths (schema
       record { number = numberOf G q; below = l; is = number-path G w; starts = t .table .columns .start .each (numberOf G q) l ∙ ap (λ (x : Path). x .start) (number-path G w) ∙ k .0 }
 
 -- ---- both tables
-module _ {s t : Schema} {source-paths target-paths : Paths} {m : Mapping} (h : Schemas s t source-paths target-paths) (k : Sound s t source-paths m) {over : List ℕ} (o : Filled 256 (sideClass (m .path) (target-paths .class)) 256 over) where
+module _ {s t : Schema} {source-paths target-paths : Paths} {f : Mapping} (h : Schemas s t source-paths target-paths) (k : Sound s t source-paths f) {over : List ℕ} (o : Filled 256 (sideClass (f .path) (target-paths .class)) 256 over) where
   abbrev S : meaning.Schema
   S = schemaOf s
 
@@ -119,13 +119,13 @@ module _ {s t : Schema} {source-paths target-paths : Paths} {m : Mapping} (h : S
   T = schemaOf t
 
   abbrev F : formats.Mapping
-  F = mappingOf s m
+  F = mappingOf s f
 
-  passed : Imageable s t source-paths target-paths m
+  passed : Imageable s t source-paths target-paths f
   passed = record { schemas = h; short = k .short; fits = k .fits }
 
   few : (i : ℕ) → i < source-paths .count → i < 256
-  few i l = let f = h .source-paths .table .few in omega arith
+  few i l = let few-paths = h .source-paths .table .few in omega arith
 
   pub over-at : (i : ℕ) → i < source-paths .count → getD over i 0 ≡ classOf T (pathImage F (pathAt (S .graph) i))
   over-at i l = o .each i (few i l) ∙ sym (image-class passed (k .images) i l)
@@ -133,8 +133,8 @@ module _ {s t : Schema} {source-paths target-paths : Paths} {m : Mapping} (h : S
   over-low : (i : ℕ) → i < source-paths .count → getD over i 0 < 256
   over-low i l =
       let j = image-below (formed (h .source)) (formed (h .target)) (images passed) i (let e = h .source-paths .table .counted in omega arith) in
-      let a : getD (m .path) i 0 < target-paths .count = omega (arith, k .images .each i l, h .target-paths .table .counted) in
-      omega (arith, o .each i (few i l), class-low (h .target) (h .target-paths) (getD (m .path) i 0) a)
+      let a : getD (f .path) i 0 < target-paths .count = omega (arith, k .images .each i l, h .target-paths .table .counted) in
+      omega (arith, o .each i (few i l), class-low (h .target) (h .target-paths) (getD (f .path) i 0) a)
 
   -- a path of S lies over a path of T where their classes are one
   over-in : (c : ℕ) (q p : Path) → List·Memᴰ p (pathsFrom (S .graph) c) → classOf T (pathImage F p) ≡ classOf T q → List·Memᴰ p (lifts S T F c q)
@@ -157,7 +157,7 @@ module _ {s t : Schema} {source-paths target-paths : Paths} {m : Mapping} (h : S
     unique = uniqueAt (source-paths .start) (source-paths .class) over classesOver c
 
     abbrev hasLift : ℕ → Bool
-    hasLift = hasLiftAt (target-paths .start) (target-paths .class) classesOver (getD (m .node) c 0)
+    hasLift = hasLiftAt (target-paths .start) (target-paths .class) classesOver (getD (f .node) c 0)
 
     every : (i : ℕ) → i < source-paths .count → getD (source-paths .start) i 0 ≡ c → getD classesOver (getD over i 0) 0 ≡ 256 → ⊥
     every i b e = lifts-every (source-paths .start) (source-paths .class) over c (source-paths .count) i (class-low (h .source) (h .source-paths)) b (over-low i b) e
@@ -179,7 +179,7 @@ module _ {s t : Schema} {source-paths target-paths : Paths} {m : Mapping} (h : S
           let n = numbered (h .target) (h .target-paths) d d-in q i in
           let y = n .number in
           let u : not (eqb (getD classesOver (getD (target-paths .class) y 0) 0) 256) ≡ true =
-          subst (λ (b : Bool). cond b (not (eqb (getD classesOver (getD (target-paths .class) y 0) 0) 256)) true ≡ true) (eq-eqb (getD (target-paths .start) y 0) (getD (m .node) c 0) (n .starts ∙ node-at s m c l)) (upto-all hasLift (target-paths .count) e y (n .below)) in
+          subst (λ (b : Bool). cond b (not (eqb (getD classesOver (getD (target-paths .class) y 0) 0) 256)) true ≡ true) (eq-eqb (getD (target-paths .start) y 0) (getD (f .node) c 0) (n .starts ∙ node-at s f c l)) (upto-all hasLift (target-paths .count) e y (n .below)) in
           let v = lifts-some (source-paths .start) (source-paths .class) over c (source-paths .count) (getD (target-paths .class) y 0) (class-low (h .target) (h .target-paths) y (n .below))
           (λ z. is-not (eqb (getD classesOver (getD (target-paths .class) y 0) 0) 256) u (eq-eqb (getD classesOver (getD (target-paths .class) y 0) 0) 256 z)) in
           let x = v .number in (
@@ -216,18 +216,18 @@ module _ {s t : Schema} {source-paths target-paths : Paths} {m : Mapping} (h : S
           (sym (v .has) ∙ class-at (h .source) (h .source-paths) y (v .below) ∙ same ∙ sym (class-at (h .source) (h .source-paths) x b)))
 
       each-has-lift : (y : ℕ) → y < target-paths .count → hasLift y ≡ true
-      each-has-lift y b = cond-is (eqb (getD (target-paths .start) y 0) (getD (m .node) c 0)) (not (eqb (getD classesOver (getD (target-paths .class) y 0) 0) 256)) (λ z.
-          let st : getD (target-paths .start) y 0 ≡ d = eqb-true (getD (target-paths .start) y 0) (getD (m .node) c 0) z ∙ sym (node-at s m c l) in
+      each-has-lift y b = cond-is (eqb (getD (target-paths .start) y 0) (getD (f .node) c 0)) (not (eqb (getD classesOver (getD (target-paths .class) y 0) 0) 256)) (λ z.
+          let st : getD (target-paths .start) y 0 ≡ d = eqb-true (getD (target-paths .start) y 0) (getD (f .node) c 0) z ∙ sym (node-at s f c l) in
           let q = pathAt (T .graph) y in
           let p = oneClass-some S (lifts S T F c q) (all-of (λ (q : Path). oneClass S (lifts S T F c q)) (pathsFrom (T .graph) d) e (from-table (h .target) (h .target-paths) d y d-in b st)) in
           let u = over-of c q (p .0) (p .1) in
           let n = numbered (h .source) (h .source-paths) c l (p .0) (u .0) in
           let x = n .number in
-          let f : getD over x 0 ≡ getD (target-paths .class) y 0 = over-at x (n .below) ∙ ap (λ (w : Path). classOf T (pathImage F w)) (n .is) ∙ u .1 ∙ sym (class-at (h .target) (h .target-paths) y b) in
+          let lies-over : getD over x 0 ≡ getD (target-paths .class) y 0 = over-at x (n .below) ∙ ap (λ (w : Path). classOf T (pathImage F w)) (n .is) ∙ u .1 ∙ sym (class-at (h .target) (h .target-paths) y b) in
           not-is (eqb (getD classesOver (getD (target-paths .class) y 0) 0) 256) (λ r.
-          every x (n .below) (n .starts) (ap (λ (w : ℕ). getD classesOver w 0) f ∙ eqb-true (getD classesOver (getD (target-paths .class) y 0) 0) 256 r)))
+          every x (n .below) (n .starts) (ap (λ (w : ℕ). getD classesOver w 0) lies-over ∙ eqb-true (getD classesOver (getD (target-paths .class) y 0) 0) 256 r)))
 
-    pub even-paths : evenPathsAt source-paths target-paths over (m .node) c ≡ all (λ q. oneClass S (lifts S T F c q)) (pathsFrom (T .graph) d)
+    pub even-paths : evenPathsAt source-paths target-paths over (f .node) c ≡ all (λ q. oneClass S (lifts S T F c q)) (pathsFrom (T .graph) d)
     even-paths = both-ways (all unique (upto (source-paths .count)) && all hasLift (upto (target-paths .count))) (all (λ q. oneClass S (lifts S T F c q)) (pathsFrom (T .graph) d))
         (λ e. let u = and-both (all unique (upto (source-paths .count))) (all hasLift (upto (target-paths .count))) e in all-in (λ (q : Path). oneClass S (lifts S T F c q)) (pathsFrom (T .graph) d) (λ q i. one-lift (u .0) (u .1) q i))
         (λ e. and-intro (all-upto unique (source-paths .count) (each-unique e)) (all-upto hasLift (target-paths .count) (each-has-lift e)))

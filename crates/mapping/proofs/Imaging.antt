@@ -38,12 +38,12 @@ pub record Fits (S T : Schema) (F : Mapping) : Type 0 where
   pub edge-joins : (e : ℕ) → e < length (S .graph .edges) → joins (T .graph) (nodeImage F (source (S .graph) e)) (edgeImage F e) ≡ true
   pub edge-end : (e : ℕ) → e < length (S .graph .edges) → endpoint (target (T .graph)) (nodeImage F (source (S .graph) e)) (edgeImage F e) ≡ nodeImage F (target (S .graph) e)
 
-module _ (s : declared.Schema) (T : Schema) (m : declaredMapping.Mapping) where
+module _ (s : declared.Schema) (T : Schema) (f : declaredMapping.Mapping) where
   abbrev S : Schema
   S = schemas.schemaOf s
 
   abbrev F : Mapping
-  F = mappingOf s m
+  F = mappingOf s f
 
   pub fits : imagesFit S T F ≡ true → Fits S T F
   fits h =
@@ -52,7 +52,7 @@ module _ (s : declared.Schema) (T : Schema) (m : declaredMapping.Mapping) where
       let u = and-both (a && b) (all (attributeImageFits S T F) (upto (length (S .attributes)))) h in
       let v = and-both a b (u .0) in
       record {
-        node-in = λ c l. rw (node-at s m c l) (ltb-true (getD (m .node) c 0) (T .graph .nodes) (all-at (λ d. ltb d (T .graph .nodes)) (s .graph .nodes) (λ i. getD (m .node) i 0) (v .0) c l));
+        node-in = λ c l. rw (node-at s f c l) (ltb-true (getD (f .node) c 0) (T .graph .nodes) (all-at (λ d. ltb d (T .graph .nodes)) (s .graph .nodes) (λ i. getD (f .node) i 0) (v .0) c l));
         edge-joins = λ e l. test (v .1) e l .0;
         edge-end = λ e l. eqb-true (endpoint (target (T .graph)) (nodeImage F (source (S .graph) e)) (edgeImage F e)) (nodeImage F (target (S .graph) e)) (test (v .1) e l .1);
       }

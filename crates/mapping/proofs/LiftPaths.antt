@@ -92,7 +92,7 @@ module _ (S : meaning.Schema) (f : WellFormed S) (c : ℕ) (h : c < S .graph .no
       pathsFrom-each S f c h p .1 (e, subst (λ (n : ℕ). IsPath (views.schemaOf S) n (p .edges)) e (allPaths-each S f p .0 (k .0))))
 
 -- ---- lifts
-module _ {s t : Schema} {source-paths target-paths : Paths} {m : Mapping} (h : Schemas s t source-paths target-paths) (k : Sound s t source-paths m) {over : List ℕ} (o : Filled 256 (sideClass (m .path) (target-paths .class)) 256 over) (c : ℕ) (l : c < s .graph .nodes) where
+module _ {s t : Schema} {source-paths target-paths : Paths} {f : Mapping} (h : Schemas s t source-paths target-paths) (k : Sound s t source-paths f) {over : List ℕ} (o : Filled 256 (sideClass (f .path) (target-paths .class)) 256 over) (c : ℕ) (l : c < s .graph .nodes) where
   abbrev S : meaning.Schema
   S = schemaOf s
 
@@ -100,7 +100,7 @@ module _ {s t : Schema} {source-paths target-paths : Paths} {m : Mapping} (h : S
   T = schemaOf t
 
   abbrev F : formats.Mapping
-  F = mappingOf s m
+  F = mappingOf s f
 
   abbrev G : meaning.Graph
   G = graphOf (s .graph)
@@ -118,29 +118,29 @@ module _ {s t : Schema} {source-paths target-paths : Paths} {m : Mapping} (h : S
       ∙ ap (map (pathAt G)) (filter-same (λ i. eqb (pathAt G i .start) c && equal T (pathImage F (pathAt G i)) q) (isOver (source-paths .start) over c (classOf T q)) (upto (source-paths .count))
       (λ i w. let b = of-upto (source-paths .count) w in rw (h .source-paths .table .columns .start .each i b, over-at h k o i b)))
 
-  passed : Imageable s t source-paths target-paths m
+  passed : Imageable s t source-paths target-paths f
   passed = record { schemas = h; short = k .short; fits = k .fits }
 
   -- an edge of T from F(c), as a path: its number, and its class
-  module _ (e : ℕ) (b : e < t .graph .edges) (at : getD (t .graph .source) e 0 ≡ getD (m .node) c 0) where
+  module _ (e : ℕ) (b : e < t .graph .edges) (at : getD (t .graph .source) e 0 ≡ getD (f .node) c 0) where
     abbrev number : ℕ
-    number = getD (target-paths .first) (getD (m .node) c 0) 0 + getD (target-paths .rank) e 0
+    number = getD (target-paths .first) (getD (f .node) c 0) 0 + getD (target-paths .rank) e 0
 
     pub record EdgePath : Type 0 where
-      pub node-low : getD (m .node) c 0 < 257
+      pub node-low : getD (f .node) c 0 < 257
       pub edge-low : e < 32
       pub number-low : number < 256
       pub class : classOf T (path (nodeImage F c) (e ∷ [])) ≡ getD (target-paths .class) number 0
 
     pub edge-path : EdgePath
     edge-path =
-        let d : ℕ = getD (m .node) c 0 in
-        let n = node-at s m c l in
+        let d : ℕ = getD (f .node) c 0 in
+        let n = node-at s f c l in
         let i : d < t .graph .nodes = rw n at (images passed .node-in c l) in
         let j : d < pathCount H = omega (arith, trivial-count H (h .target .acyclic)) in
         let q = h .target-paths .table in
         let u = q .counted in
-        let f = q .few in
+        let few = q .few in
         let v = h .target .limits .edges in
         let z = edges-count (t .graph .edges) (t .graph .source) (t .graph .target) in
         let x = trivial-at H (h .target .acyclic) d i in
@@ -156,7 +156,7 @@ module _ {s t : Schema} {source-paths target-paths : Paths} {m : Mapping} (h : S
         }
 
     -- the lift of e at c is what `first_over` finds
-    pub lift-number : IsLift s t source-paths m c e (headOr c (filter (isOver (source-paths .start) over c (getD (target-paths .class) number 0)) (upto (source-paths .count))))
+    pub lift-number : IsLift s t source-paths f c e (headOr c (filter (isOver (source-paths .start) over c (getD (target-paths .class) number 0)) (upto (source-paths .count))))
     lift-number =
         let r : ℕ = headOr c (filter (isOver (source-paths .start) over c (getD (target-paths .class) number 0)) (upto (source-paths .count))) in
         let u = h .source-paths .table .counted in

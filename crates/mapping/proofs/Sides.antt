@@ -59,22 +59,22 @@ pub record Side (s : Schema) (source-paths : Paths) (p : declared.Path) : Type 0
 pub side : {s : Schema} {source-paths : Paths} {p : declared.Path} → Sound s → IsTable (graphOf (s .graph)) source-paths → SoundPath (s .graph) p → Side s source-paths p
 side {s} {source-paths} h t w = let n = path-numbered s source-paths h t w in record { short = w .short; within = n .within; low = omega (arith, n .below, t .counted, t .few); is = n .number }
 
-module _ {s t : Schema} {source-paths target-paths : Paths} {m : Mapping} (h : Imageable s t source-paths target-paths m) {path : List ℕ} (f : Filled 256 (imageNumber (schemaOf s) (schemaOf t) (mappingOf s m)) (source-paths .count) path) where
-  pub image-class : (i : ℕ) → i < source-paths .count → classOf (schemaOf t) (pathImage (mappingOf s m) (pathAt (graphOf (s .graph)) i)) ≡ sideClass path (target-paths .class) i
+module _ {s t : Schema} {source-paths target-paths : Paths} {f : Mapping} (h : Imageable s t source-paths target-paths f) {path : List ℕ} (filled : Filled 256 (imageNumber (schemaOf s) (schemaOf t) (mappingOf s f)) (source-paths .count) path) where
+  pub image-class : (i : ℕ) → i < source-paths .count → classOf (schemaOf t) (pathImage (mappingOf s f) (pathAt (graphOf (s .graph)) i)) ≡ sideClass path (target-paths .class) i
   image-class i l =
       let a = h .schemas .source-paths .table .counted in
       let b = h .schemas .target-paths .table .counted in
       let k = image-below (formed (h .schemas .source)) (formed (h .schemas .target)) (images h) i (omega arith) in
-      sym (h .schemas .target-paths .class .each (imageNumber (schemaOf s) (schemaOf t) (mappingOf s m) i) (omega arith)) ∙ ap (λ (x : ℕ). getD (target-paths .class) x 0) (sym (f .each i l))
+      sym (h .schemas .target-paths .class .each (imageNumber (schemaOf s) (schemaOf t) (mappingOf s f) i) (omega arith)) ∙ ap (λ (x : ℕ). getD (target-paths .class) x 0) (sym (filled .each i l))
 
-  side-class : (p : Path) → isPath (graphOf (s .graph)) p ≡ true → classOf (schemaOf t) (pathImage (mappingOf s m) p) ≡ sideClass path (target-paths .class) (numberOf (graphOf (s .graph)) p)
+  side-class : (p : Path) → isPath (graphOf (s .graph)) p ≡ true → classOf (schemaOf t) (pathImage (mappingOf s f) p) ≡ sideClass path (target-paths .class) (numberOf (graphOf (s .graph)) p)
   side-class p e =
       let n = number-below s (h .schemas .source) p e in
-      ap (λ (x : Path). classOf (schemaOf t) (pathImage (mappingOf s m) x)) (sym (n .1)) ∙ image-class (numberOf (graphOf (s .graph)) p) (let a = h .schemas .source-paths .table .counted in let b = n .0 in omega arith)
+      ap (λ (x : Path). classOf (schemaOf t) (pathImage (mappingOf s f) x)) (sym (n .1)) ∙ image-class (numberOf (graphOf (s .graph)) p) (let a = h .schemas .source-paths .table .counted in let b = n .0 in omega arith)
 
   abbrev agrees : Equation → Bool
   agrees x = eqb (sideClass path (target-paths .class) (numberOf (graphOf (s .graph)) (x .left))) (sideClass path (target-paths .class) (numberOf (graphOf (s .graph)) (x .right)))
 
-  pub keeps-by : keepsEquations (schemaOf s) (schemaOf t) (mappingOf s m) ≡ all agrees (schemaOf s .equations)
-  keeps-by = all-same (λ q. equal (schemaOf t) (pathImage (mappingOf s m) (q .left)) (pathImage (mappingOf s m) (q .right))) agrees (s .equations) (equation s)
+  pub keeps-by : keepsEquations (schemaOf s) (schemaOf t) (mappingOf s f) ≡ all agrees (schemaOf s .equations)
+  keeps-by = all-same (λ q. equal (schemaOf t) (pathImage (mappingOf s f) (q .left)) (pathImage (mappingOf s f) (q .right))) agrees (s .equations) (equation s)
       (λ q l. let u = sides s (h .schemas .source) q l in rw (side-class (equation s q .left) (u .0 .path), side-class (equation s q .right) (u .1 .path)))

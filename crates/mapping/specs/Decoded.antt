@@ -33,11 +33,11 @@ abbrev pub firstOf : ℕ → List ℕ → List ℕ
 firstOf n l = tabulate n (λ i. getD l i 0)
 
 abbrev pub mappingOf : Schema → Mapping → meaning.Mapping
-mappingOf s m = record { nodes = firstOf (s .graph .nodes) (m .node); edges = imagesOf (s .graph .edges) (m .edge); attributes = firstOf (s .attributes) (m .attribute) }
+mappingOf s f = record { nodes = firstOf (s .graph .nodes) (f .node); edges = imagesOf (s .graph .edges) (f .edge); attributes = firstOf (s .attributes) (f .attribute) }
 
 -- the number with which the sheet is sent back, or what it says
 abbrev pub judgedMapping : Schema → Mapping → Judged meaning.Mapping
-judgedMapping s m = cond (eqb (m .fault) 0) (sound (mappingOf s m)) (faulty (m .fault))
+judgedMapping s f = cond (eqb (f .fault) 0) (sound (mappingOf s f)) (faulty (f .fault))
 
 abbrev pub emptyImage : Image
 emptyImage = record { length = 0; edges = replicate 16 0 }
@@ -64,6 +64,6 @@ pub record ImagesTaken (sheet : List ℕ) (at n : ℕ) (r : ImagesRead) : Type 0
   pub short : (r .cut ≡ false → Short n (r .edge))
 
 -- a sheet read, before any test of its sense
-pub record Decoded (s : Schema) (m : Mapping) (J : Judged meaning.Mapping) : Type 0 where
-  pub says : judgedMapping s m ≡ J
-  pub short : Short (s .graph .edges) (m .edge)
+pub record Decoded (s : Schema) (f : Mapping) (J : Judged meaning.Mapping) : Type 0 where
+  pub says : judgedMapping s f ≡ J
+  pub short : Short (s .graph .edges) (f .edge)

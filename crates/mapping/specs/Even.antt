@@ -41,4 +41,4 @@ abbrev pub evenColumnAt : List ℕ → List ℕ → ℕ → List ℕ → ℕ →
 evenColumnAt home image n target-home c d b = cond (eqb (getD target-home b 0) d) (eqb (length (filter (isOver home image c b) (upto n))) 1) true
 
 abbrev pub evenColumnsAt : Schema → Schema → Mapping → ℕ → Bool
-evenColumnsAt s t m c = all (evenColumnAt (s .node) (m .attribute) (s .attributes) (t .node) c (getD (m .node) c 0)) (upto (t .attributes))
+evenColumnsAt s t f c = all (evenColumnAt (s .node) (f .attribute) (s .attributes) (t .node) c (getD (f .node) c 0)) (upto (t .attributes))

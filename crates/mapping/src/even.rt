@@ -216,17 +216,17 @@ fn columns_even<'a>(
 }
 
 // Whether, for each node c of S, each attribute at its image is the image of exactly one at c.
-fn attributes_even(s: Schema, t: Schema, m: Mapping) -> bool
+fn attributes_even(s: Schema, t: Schema, f: Mapping) -> bool
     requires { ⌜ (s .graph .nodes ≤ 16) × (s .attributes ≤ 16) × (t .attributes ≤ 16) ⌝ }
-    ensures { λ r. ⌜ r ≡ all (evenColumnsAt s t m) (upto (s .graph .nodes)) ⌝ }
+    ensures { λ r. ⌜ r ≡ all (evenColumnsAt s t f) (upto (s .graph .nodes)) ⌝ }
 {
     let nodes = s.graph.nodes;
     let mut c = 0;
     while c < nodes {
-        let d = m.node[c];
+        let d = f.node[c];
         if columns_even(
             &s.node,
-            &m.attribute,
+            &f.attribute,
             s.attributes,
             &t.node,
             t.attributes,
@@ -241,13 +241,13 @@ fn attributes_even(s: Schema, t: Schema, m: Mapping) -> bool
     true
 }
 
-pub fn is_even(s: Schema, t: Schema, source_paths: Paths, target_paths: Paths, m: Mapping) -> bool
-    requires { ⌜ Schemas s t «source_paths» «target_paths» × Sound s t «source_paths» m ⌝ }
-    ensures { λ r. ⌜ r ≡ even (schemaOf s) (schemaOf t) (mappingOf s m) ⌝ }
+pub fn is_even(s: Schema, t: Schema, source_paths: Paths, target_paths: Paths, f: Mapping) -> bool
+    requires { ⌜ Schemas s t «source_paths» «target_paths» × Sound s t «source_paths» f ⌝ }
+    ensures { λ r. ⌜ r ≡ even (schemaOf s) (schemaOf t) (mappingOf s f) ⌝ }
 {
-    let over = image_classes(&m.path, &target_paths.class);
-    if paths_even(s.graph.nodes, source_paths, target_paths, &over, &m.node) {
-        return attributes_even(s, t, m);
+    let over = image_classes(&f.path, &target_paths.class);
+    if paths_even(s.graph.nodes, source_paths, target_paths, &over, &f.node) {
+        return attributes_even(s, t, f);
     }
     false
 }

@@ -30,10 +30,10 @@ pub fn path_images(
     t: Schema,
     source_paths: Paths,
     target_paths: Paths,
-    m: Mapping,
+    f: Mapping,
 ) -> [u8; Mapping::PATHS]
-    requires { ⌜ Imageable s t «source_paths» «target_paths» m ⌝ }
-    ensures { λ r. ⌜ Filled 256 (imageNumber (schemaOf s) (schemaOf t) (mappingOf s m)) («source_paths» .count) r ⌝ }
+    requires { ⌜ Imageable s t «source_paths» «target_paths» f ⌝ }
+    ensures { λ r. ⌜ Filled 256 (imageNumber (schemaOf s) (schemaOf t) (mappingOf s f)) («source_paths» .count) r ⌝ }
 {
     let count = source_paths.count;
     let mut path = [0u8; Mapping::PATHS];
@@ -42,11 +42,11 @@ pub fn path_images(
         let k = i;
         i += 1;
         if k < s.graph.nodes {
-            path[k] = m.node[k];
+            path[k] = f.node[k];
         } else {
             let parent = wide(source_paths.parent[k]);
             let last = wide(source_paths.last[k]);
-            let image = m.edge[last];
+            let image = f.edge[last];
             path[k] = walk(
                 &target_paths.first,
                 &target_paths.rank,

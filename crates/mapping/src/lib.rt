@@ -71,17 +71,17 @@ impl Mapping {
 }
 
 // Tests 7 and 8.
-fn tested(s: Schema, t: Schema, source_paths: Paths, target_paths: Paths, m: Mapping) -> Mapping
-    requires { ⌜ Schemas s t «source_paths» «target_paths» × Short (s .graph .edges) (m .edge) ⌝ }
-    ensures { λ r. ⌜ Says s t «source_paths» r (testMapping (schemaOf s) (schemaOf t) (mappingOf s m)) ⌝ }
+fn tested(s: Schema, t: Schema, source_paths: Paths, target_paths: Paths, f: Mapping) -> Mapping
+    requires { ⌜ Schemas s t «source_paths» «target_paths» × Short (s .graph .edges) (f .edge) ⌝ }
+    ensures { λ r. ⌜ Says s t «source_paths» r (testMapping (schemaOf s) (schemaOf t) (mappingOf s f)) ⌝ }
 {
-    if fits::images_fit(s, t, m) {
-        let path = images::path_images(s, t, source_paths, target_paths, m);
+    if fits::images_fit(s, t, f) {
+        let path = images::path_images(s, t, source_paths, target_paths, f);
         let class = target_paths.class;
         if images::sides_agree(s, source_paths, &path, &class) {
-            let node = m.node;
-            let edge = m.edge;
-            let attribute = m.attribute;
+            let node = f.node;
+            let edge = f.edge;
+            let attribute = f.attribute;
             return Mapping {
                 fault: 0,
                 node: node,
@@ -106,10 +106,10 @@ pub fn judge_mapping(
     requires { ⌜ Schemas s t «source_paths» «target_paths» ⌝ }
     ensures { λ r. ⌜ Says s t «source_paths» r (judgeMapping (schemaOf s) (schemaOf t) (now (sheet .entry))) ⌝ }
 {
-    let m = decode::decode_mapping(s, sheet);
-    let fault = m.fault;
+    let f = decode::decode_mapping(s, sheet);
+    let fault = f.fault;
     if fault == 0 {
-        return tested(s, t, source_paths, target_paths, m);
+        return tested(s, t, source_paths, target_paths, f);
     }
     Mapping::faulty(fault)
 }

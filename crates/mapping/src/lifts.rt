@@ -54,12 +54,12 @@ pub fn edge_lifts(
     t: Schema,
     source_paths: Paths,
     target_paths: Paths,
-    m: Mapping,
+    f: Mapping,
 ) -> [u8; Mapping::LIFTS]
-    requires { ⌜ Schemas s t «source_paths» «target_paths» × Sound s t «source_paths» m ⌝ }
-    ensures { λ r. ⌜ EdgeLifts s t «source_paths» m (16 * t .graph .edges) r ⌝ }
+    requires { ⌜ Schemas s t «source_paths» «target_paths» × Sound s t «source_paths» f ⌝ }
+    ensures { λ r. ⌜ EdgeLifts s t «source_paths» f (16 * t .graph .edges) r ⌝ }
 {
-    let over = image_classes(&m.path, &target_paths.class);
+    let over = image_classes(&f.path, &target_paths.class);
     let g = t.graph;
     let mut lifts = [0u8; Mapping::LIFTS];
     let mut i = 0;
@@ -69,7 +69,7 @@ pub fn edge_lifts(
         let c = k % Schema::NODES;
         i += 1;
         if c < s.graph.nodes {
-            let d = m.node[c];
+            let d = f.node[c];
             if g.source[e] == d {
                 let b = edge_class(
                     &target_paths.first,

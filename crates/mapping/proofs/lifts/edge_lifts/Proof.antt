@@ -12,10 +12,10 @@ use Rattle.mapping.proofs.lifts.edge_lifts.Statement.{statement}
 use Rattle.mapping.proofs.lifts.edge_lifts.Tie as tie
 
 abbrev Inv-loop : tie.InvT-loop
-Inv-loop s t source-paths target-paths m over g lifts₀ i₀ lifts i = (i ≤ 16 * t .graph .edges) × EdgeLifts s t source-paths m i lifts × (length lifts ≡ 512)
+Inv-loop s t source-paths target-paths f over g lifts₀ i₀ lifts i = (i ≤ 16 * t .graph .edges) × EdgeLifts s t source-paths f i lifts × (length lifts ≡ 512)
 
 abbrev μ-loop : tie.MeasureT-loop
-μ-loop s t source-paths target-paths m over g lifts₀ i₀ lifts i = 16 * t .graph .edges - i
+μ-loop s t source-paths target-paths f over g lifts₀ i₀ lifts i = 16 * t .graph .edges - i
 
 edge-in : (c : tie.Then3 Inv-loop μ-loop) → c .before .before .before .before .before .before .before .loop .i / 16 < c .before .before .before .before .before .before .before .before .before .before .before .before .before .before .args .t .graph .edges
 edge-in c = let l = c .before .before .before .before .before .if1 .taken in omega arith
