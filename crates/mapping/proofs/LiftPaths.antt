@@ -1,5 +1,5 @@
 -- Lifts by the tables of paths: those of a class at c are the numbers at which two arrays have c and the class, and the lift of an edge is the first.
-use Prim.Native.Nat.{ℕ, _+_, _<_}
+use Prim.Native.Nat.{ℕ, _+_, _<_, _≤_}
 use mathlib.Core.Path.{_≡_, refl, sym, ap, _∙_, subst}
 use mathlib.Core.Bool.{Bool, true, false, _&&_}
 use mathlib.Core.List.{List, [], _∷_, _++_, map, List·Memᴰ, List·Memᴰ·head, List·Memᴰ·tail}
@@ -62,12 +62,13 @@ module _ {A : Type 0} (l : List A) (d : A) where
   pub filter-place : (f : A → Bool) → filter f l ≡ map (λ i. getD l i d) (filter (λ i. f (getD l i d)) (upto (length l)))
   filter-place f = ap (filter f) by-place ∙ filter-map f (λ i. getD l i d) (upto (length l))
 
-headOr-below : (n d : ℕ) (f : ℕ → Bool) → d < n → headOr d (filter f (upto n)) < n
-headOr-below n d f h = go (filter f (upto n)) (λ x m. of-upto n (filter-of f (upto n) m .0))
+-- the first of the numbers below n that pass a test, or d
+pub headOr-below : (n b d : ℕ) (f : ℕ → Bool) → n ≤ b → d < b → headOr d (filter f (upto n)) < b
+headOr-below n b d f h z = go (filter f (upto n)) (λ x m. of-upto n (filter-of f (upto n) m .0))
   where
-    go : (l : List ℕ) → ((x : ℕ) → List·Memᴰ x l → x < n) → headOr d l < n
-    go [] k = h
-    go (x ∷ l) k = k x (List·Memᴰ·head refl)
+    go : (l : List ℕ) → ((x : ℕ) → List·Memᴰ x l → x < n) → headOr d l < b
+    go [] k = z
+    go (x ∷ l) k = omega (arith, k x (List·Memᴰ·head refl))
 
 -- ---- the paths from c among all paths
 module _ (S : meaning.Schema) (f : WellFormed S) (c : ℕ) (h : c < S .graph .nodes) where
@@ -160,7 +161,7 @@ module _ {s t : Schema} {source-paths target-paths : Paths} {f : Mapping} (h : S
     lift-number =
         let r : ℕ = headOr c (filter (isOver (source-paths .start) over c (getD (target-paths .class) number 0)) (upto (source-paths .count))) in
         let u = h .source-paths .table .counted in
-        let i : r < source-paths .count = headOr-below (source-paths .count) c (isOver (source-paths .start) over c (getD (target-paths .class) number 0)) (omega (arith, trivial-count G (h .source .acyclic))) in
+        let i : r < source-paths .count = headOr-below (source-paths .count) (source-paths .count) c (isOver (source-paths .start) over c (getD (target-paths .class) number 0)) (omega arith) (omega (arith, trivial-count G (h .source .acyclic))) in
         let p : pathAt G r ≡ lift S T F c e = sym (
         ap (headOr (path c [])) (lifts-are (path (nodeImage F c) (e ∷ [])))
         ∙ ap (λ (x : ℕ). headOr (path c []) (map (pathAt G) (filter (isOver (source-paths .start) over c x) (upto (source-paths .count))))) (edge-path .class)
