@@ -25,10 +25,14 @@ uniqueAt start class over lifts c k = cond (eqb (getD start k 0) c) (eqb (getD l
 abbrev pub hasLiftAt : List ℕ → List ℕ → List ℕ → ℕ → ℕ → Bool
 hasLiftAt start class lifts d k = cond (eqb (getD start k 0) d) (not (eqb (getD lifts (getD class k 0) 0) 256)) true
 
-abbrev pub evenPathsAt : Paths → Paths → List ℕ → List ℕ → ℕ → Bool
-evenPathsAt source-paths target-paths over node c =
+-- each path of T from d has one lift at c
+abbrev pub eachHasOneLift : Paths → Paths → List ℕ → ℕ → ℕ → Bool
+eachHasOneLift source-paths target-paths over c d =
     all (uniqueAt (source-paths .start) (source-paths .class) over (liftClasses (source-paths .start) (source-paths .class) over c (source-paths .count)) c) (upto (source-paths .count)) &&
-    all (hasLiftAt (target-paths .start) (target-paths .class) (liftClasses (source-paths .start) (source-paths .class) over c (source-paths .count)) (getD node c 0)) (upto (target-paths .count))
+    all (hasLiftAt (target-paths .start) (target-paths .class) (liftClasses (source-paths .start) (source-paths .class) over c (source-paths .count)) d) (upto (target-paths .count))
+
+abbrev pub evenPathsAt : Paths → Paths → List ℕ → List ℕ → ℕ → Bool
+evenPathsAt source-paths target-paths over node c = eachHasOneLift source-paths target-paths over c (getD node c 0)
 
 -- ---- attributes
 

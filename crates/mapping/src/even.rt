@@ -13,7 +13,7 @@ ghost use Rattle.schema.specs.Decoded.{schemaOf};
 ghost use Rattle.schema.specs.Table.{Filled};
 ghost use Rattle.mapping.specs.Decoded.{mappingOf};
 ghost use Rattle.mapping.specs.Judged.{Schemas, Sound, sideClass};
-ghost use Rattle.mapping.specs.Even.{liftClasses, uniqueAt, hasLiftAt, evenPathsAt, isOver, evenColumnAt, evenColumnsAt};
+ghost use Rattle.mapping.specs.Even.{liftClasses, uniqueAt, hasLiftAt, eachHasOneLift, evenPathsAt, isOver, evenColumnAt, evenColumnsAt};
 
 // What stands in place of a class where there is none: classes are below it.
 const NO_LIFT: u16 = 256;
@@ -117,7 +117,44 @@ fn each_has_lift<'a>(
     true
 }
 
-// Whether each path of T from the image of a node has one lift at that node, for each of the nodes; over has the class of the image of each path.
+// Whether each path of T from d has one lift at c; over has the class of the image of each path.
+fn each_has_one_lift(
+    source_paths: Paths,
+    target_paths: Paths,
+    over: &[u8; Mapping::PATHS],
+    c: u8,
+    d: u8,
+) -> bool
+    requires { ⌜ («source_paths» .count ≤ 256) × («target_paths» .count ≤ 256) ⌝ }
+    ensures { λ r. ⌜ r ≡ eachHasOneLift «source_paths» «target_paths» (now (over .entry)) c d ⌝ }
+{
+    let lifts = lift_classes(
+        &source_paths.start,
+        &source_paths.class,
+        over,
+        source_paths.count,
+        c,
+    );
+    if lifts_unique(
+        &source_paths.start,
+        &source_paths.class,
+        over,
+        &lifts,
+        source_paths.count,
+        c,
+    ) {
+        return each_has_lift(
+            &target_paths.start,
+            &target_paths.class,
+            &lifts,
+            target_paths.count,
+            d,
+        );
+    }
+    false
+}
+
+// Whether each path of T from the image of a node has one lift at that node, for each of the nodes.
 fn paths_even<'a>(
     nodes: usize,
     source_paths: Paths,
@@ -128,35 +165,10 @@ fn paths_even<'a>(
     requires { ⌜ (nodes ≤ 16) × («source_paths» .count ≤ 256) × («target_paths» .count ≤ 256) ⌝ }
     ensures { λ r. ⌜ r ≡ all (evenPathsAt «source_paths» «target_paths» (now (over .entry)) (now (node .entry))) (upto nodes) ⌝ }
 {
-    let mut i = 0;
-    while i < nodes {
-        let c = i as u8;
-        let lifts = lift_classes(
-            &source_paths.start,
-            &source_paths.class,
-            over,
-            source_paths.count,
-            c,
-        );
-        if lifts_unique(
-            &source_paths.start,
-            &source_paths.class,
-            over,
-            &lifts,
-            source_paths.count,
-            c,
-        ) {
-            if each_has_lift(
-                &target_paths.start,
-                &target_paths.class,
-                &lifts,
-                target_paths.count,
-                node[i],
-            ) {
-                i += 1;
-            } else {
-                return false;
-            }
+    let mut c = 0;
+    while c < nodes {
+        if each_has_one_lift(source_paths, target_paths, over, c as u8, node[c]) {
+            c += 1;
         } else {
             return false;
         }

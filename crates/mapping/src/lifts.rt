@@ -34,18 +34,12 @@ pub fn first_over<'a>(home: &'a [u8], image: &'a [u8], n: usize, c: u8, b: u8, n
 }
 
 // The class of an edge of T as a path, from its source d on.
-fn edge_class<'a>(
-    first: &'a [u16; Schema::PATHS + 1],
-    rank: &'a [u8; Schema::EDGES],
-    class: &'a [u8; Schema::PATHS],
-    d: usize,
-    e: usize,
-) -> u8
-    requires { ⌜ (d < 257) × (e < 32) × (getD (now first) d 0 + getD (now rank) e 0 < 256) ⌝ }
-    ensures { λ r. ⌜ r ≡ getD (now (class .entry)) (getD (now (first .entry)) d 0 + getD (now (rank .entry)) e 0) 0 ⌝ }
+fn edge_class(target_paths: Paths, d: usize, e: usize) -> u8
+    requires { ⌜ (d < 257) × (e < 32) × (getD («target_paths» .first) d 0 + getD («target_paths» .rank) e 0 < 256) ⌝ }
+    ensures { λ r. ⌜ r ≡ getD («target_paths» .class) (getD («target_paths» .first) d 0 + getD («target_paths» .rank) e 0) 0 ⌝ }
 {
-    let x = index(first[d]) + wide(rank[e]);
-    class[x]
+    let x = index(target_paths.first[d]) + wide(target_paths.rank[e]);
+    target_paths.class[x]
 }
 
 // For each edge e of T and each node c of S at whose image it begins, at 16 * e + c: the number of the first path from c over e, or c.
@@ -71,13 +65,7 @@ pub fn edge_lifts(
         if c < s.graph.nodes {
             let d = f.node[c];
             if g.source[e] == d {
-                let b = edge_class(
-                    &target_paths.first,
-                    &target_paths.rank,
-                    &target_paths.class,
-                    wide(d),
-                    e,
-                );
+                let b = edge_class(target_paths, wide(d), e);
                 lifts[k] = first_over(
                     &source_paths.start,
                     &over,
