@@ -1,4 +1,4 @@
--- Attributes over an attribute, and pairs of attributes, by arrays.
+-- Attributes over an attribute, and whether the attribute mapping is a bijection, by arrays.
 use Prim.Native.Nat.{ℕ}
 use mathlib.Core.Path.{_≡_, ap, _∙_}
 use mathlib.Core.Bool.{_&&_}
@@ -21,23 +21,23 @@ use Rattle.mapping.specs.Even.{isOver}
 use Rattle.mapping.proofs.Viewing.{attribute-at, attributes-count, attribute-is}
 use Rattle.mapping.proofs.Counting.{filter-filter, filter-same}
 
-module _ (s : Schema) (m : Mapping) where
+module _ (s : Schema) (f : Mapping) where
   abbrev S : meaning.Schema
   S = schemaOf s
 
   abbrev F : formats.Mapping
-  F = mappingOf s m
+  F = mappingOf s f
 
-  pub attributes-over : (c b : ℕ) → attributesOver S F c b ≡ filter (isOver (s .node) (m .attribute) c b) (upto (s .attributes))
+  pub attributes-over : (c b : ℕ) → attributesOver S F c b ≡ filter (isOver (s .node) (f .attribute) c b) (upto (s .attributes))
   attributes-over c b =
       filter-filter (λ a. eqb (attributeAt S a .node) c) (λ a. eqb (attributeImage F a) b) (upto (length (S .attributes)))
       ∙ ap (λ (n : ℕ). filter (λ a. eqb (attributeAt S a .node) c && eqb (attributeImage F a) b) (upto n)) (attributes-count s)
-      ∙ filter-same (λ a. eqb (attributeAt S a .node) c && eqb (attributeImage F a) b) (isOver (s .node) (m .attribute) c b) (upto (s .attributes))
-      (λ a i. let l = of-upto (s .attributes) i in rw (attribute-is s a l, attribute-at s m a l))
+      ∙ filter-same (λ a. eqb (attributeAt S a .node) c && eqb (attributeImage F a) b) (isOver (s .node) (f .attribute) c b) (upto (s .attributes))
+      (λ a i. let l = of-upto (s .attributes) i in rw (attribute-is s a l, attribute-at s f a l))
 
   -- the one that `first_over` finds
-  pub attribute-over : (c b : ℕ) → attributeOver S F c b ≡ headOr 0 (filter (isOver (s .node) (m .attribute) c b) (upto (s .attributes)))
+  pub attribute-over : (c b : ℕ) → attributeOver S F c b ≡ headOr 0 (filter (isOver (s .node) (f .attribute) c b) (upto (s .attributes)))
   attribute-over c b = ap (headOr 0) (attributes-over c b)
 
-  pub bijective-by : (t : Schema) → isBijective (schemaOf t) F ≡ all (λ b. eqb (length (filter (eqb b) (firstOf (s .attributes) (m .attribute)))) 1) (upto (t .attributes))
+  pub bijective-by : (t : Schema) → isBijective (schemaOf t) F ≡ all (λ b. eqb (length (filter (eqb b) (firstOf (s .attributes) (f .attribute)))) 1) (upto (t .attributes))
   bijective-by t = ap (λ (n : ℕ). all (λ b. eqb (length (filter (eqb b) (F .attributes))) 1) (upto n)) (attributes-count t)

@@ -19,58 +19,58 @@ use Rattle.mapping.specs.declared.Mapping as declared
 use Rattle.mapping.specs.Decoded.{Decoded, noImage, emptyImage, emptyMapping}
 
 -- ---- an edge's image
-module _ (s : List ℕ) (p : ℕ) where
-  pub edges-short : p ≤ 8 * length s → 8 * length s < p + 4 → readEdges s p ≡ fails 1
-  edges-short h l = rw (fixed-field 4 .cut s p h l)
+module _ (sheet : List ℕ) (p : ℕ) where
+  pub edges-short : p ≤ 8 * length sheet → 8 * length sheet < p + 4 → readEdges sheet p ≡ fails 1
+  edges-short h l = rw (fixed-field 4 .cut sheet p h l)
 
-  pub edges-cut : p + 4 ≤ 8 * length s → 8 * length s < p + 4 + 5 * bits.field s p 4 → readEdges s p ≡ fails 1
-  edges-cut h l = rw (fixed-field 4 .here s p h, fixed-times (bits.field s p 4) (fixed-field 5) .cut s (p + 4) h l)
+  pub edges-cut : p + 4 ≤ 8 * length sheet → 8 * length sheet < p + 4 + 5 * bits.field sheet p 4 → readEdges sheet p ≡ fails 1
+  edges-cut h l = rw (fixed-field 4 .here sheet p h, fixed-times (bits.field sheet p 4) (fixed-field 5) .cut sheet (p + 4) h l)
 
-  pub edges-read : p + 4 + 5 * bits.field s p 4 ≤ 8 * length s →
-      readEdges s p ≡ reads (tabulate (bits.field s p 4) (λ i. bits.field s (p + 4 + 5 * i) 5)) (p + 4 + 5 * bits.field s p 4)
-  edges-read l = rw (fixed-field 4 .here s p (omega arith), fixed-times (bits.field s p 4) (fixed-field 5) .here s (p + 4) l)
+  pub edges-read : p + 4 + 5 * bits.field sheet p 4 ≤ 8 * length sheet →
+      readEdges sheet p ≡ reads (tabulate (bits.field sheet p 4) (λ i. bits.field sheet (p + 4 + 5 * i) 5)) (p + 4 + 5 * bits.field sheet p 4)
+  edges-read l = rw (fixed-field 4 .here sheet p (omega arith), fixed-times (bits.field sheet p 4) (fixed-field 5) .here sheet (p + 4) l)
 
 -- ---- a mapping sheet
 -- n numbers of 4 bits from p on
-abbrev pub numbersIn : List ℕ → ℕ → ℕ → List ℕ
-numbersIn s p n = tabulate n (λ i. bits.field s (p + 4 * i) 4)
+abbrev numbersIn : List ℕ → ℕ → ℕ → List ℕ
+numbersIn sheet p n = tabulate n (λ i. bits.field sheet (p + 4 * i) 4)
 
-module _ (t : Schema) (s : List ℕ) where
+module _ (s : Schema) (sheet : List ℕ) where
   abbrev n : ℕ
-  n = t .graph .nodes
+  n = s .graph .nodes
 
   abbrev k : ℕ
-  k = t .graph .edges
+  k = s .graph .edges
 
   abbrev a : ℕ
-  a = t .attributes
+  a = s .attributes
 
-  edges-are : length (schemaOf t .graph .edges) ≡ k
-  edges-are = edges-count k (t .graph .source) (t .graph .target)
+  edges-are : length (schemaOf s .graph .edges) ≡ k
+  edges-are = edges-count k (s .graph .source) (s .graph .target)
 
-  attributes-are : length (schemaOf t .attributes) ≡ a
+  attributes-are : length (schemaOf s .attributes) ≡ a
   attributes-are = tabulate-length a _
 
-  pub mapping-short : 8 * length s < 4 * n → readMapping (schemaOf t) s 0 ≡ fails 1
-  mapping-short h = rw (fixed-times n (fixed-field 4) .cut s 0 (omega arith) (omega arith))
+  pub mapping-short : 8 * length sheet < 4 * n → readMapping (schemaOf s) sheet 0 ≡ fails 1
+  mapping-short h = rw (fixed-times n (fixed-field 4) .cut sheet 0 (omega arith) (omega arith))
 
-  module _ (room : 4 * n ≤ 8 * length s) where
-    nodes-read : times n (field 4) s 0 ≡ reads (numbersIn s 0 n) (4 * n)
-    nodes-read = fixed-times n (fixed-field 4) .here s 0 (omega arith) ∙ ap (reads (numbersIn s 0 n)) (omega arith)
+  module _ (room : 4 * n ≤ 8 * length sheet) where
+    nodes-read : times n (field 4) sheet 0 ≡ reads (numbersIn sheet 0 n) (4 * n)
+    nodes-read = fixed-times n (fixed-field 4) .here sheet 0 (omega arith) ∙ ap (reads (numbersIn sheet 0 n)) (omega arith)
 
-    pub mapping-fails : {f : ℕ} → times k readEdges s (4 * n) ≡ fails f → readMapping (schemaOf t) s 0 ≡ fails f
+    pub mapping-fails : {number : ℕ} → times k readEdges sheet (4 * n) ≡ fails number → readMapping (schemaOf s) sheet 0 ≡ fails number
     mapping-fails e = rw (nodes-read, edges-are, e)
 
-    module _ {images : List (List ℕ)} {q : ℕ} (e : times k readEdges s (4 * n) ≡ reads images q) where
-      pub mapping-cut : q ≤ 8 * length s → 8 * length s < q + 4 * a → readMapping (schemaOf t) s 0 ≡ fails 1
-      mapping-cut h l = rw (nodes-read, edges-are, e, attributes-are, fixed-times a (fixed-field 4) .cut s q h l)
+    module _ {images : List (List ℕ)} {q : ℕ} (e : times k readEdges sheet (4 * n) ≡ reads images q) where
+      pub mapping-cut : q ≤ 8 * length sheet → 8 * length sheet < q + 4 * a → readMapping (schemaOf s) sheet 0 ≡ fails 1
+      mapping-cut h l = rw (nodes-read, edges-are, e, attributes-are, fixed-times a (fixed-field 4) .cut sheet q h l)
 
-      pub mapping-tail : q + 4 * a ≤ 8 * length s → bits.tailOk s (q + 4 * a) ≡ false → readMapping (schemaOf t) s 0 ≡ fails 2
-      mapping-tail l o = rw (nodes-read, edges-are, e, attributes-are, fixed-times a (fixed-field 4) .here s q l, o)
+      pub mapping-tail : q + 4 * a ≤ 8 * length sheet → bits.tailOk sheet (q + 4 * a) ≡ false → readMapping (schemaOf s) sheet 0 ≡ fails 2
+      mapping-tail l o = rw (nodes-read, edges-are, e, attributes-are, fixed-times a (fixed-field 4) .here sheet q l, o)
 
-      pub mapping-read : q + 4 * a ≤ 8 * length s → bits.tailOk s (q + 4 * a) ≡ true →
-          readMapping (schemaOf t) s 0 ≡ reads (record { nodes = numbersIn s 0 n; edges = images; attributes = numbersIn s q a }) (q + 4 * a)
-      mapping-read l o = rw (nodes-read, edges-are, e, attributes-are, fixed-times a (fixed-field 4) .here s q l, o)
+      pub mapping-read : q + 4 * a ≤ 8 * length sheet → bits.tailOk sheet (q + 4 * a) ≡ true →
+          readMapping (schemaOf s) sheet 0 ≡ reads (record { nodes = numbersIn sheet 0 n; edges = images; attributes = numbersIn sheet q a }) (q + 4 * a)
+      mapping-read l o = rw (nodes-read, edges-are, e, attributes-are, fixed-times a (fixed-field 4) .here sheet q l, o)
 
 -- ---- a sheet sent back
 empty-lengths : (n e : ℕ) → getD (replicate n emptyImage) e noImage .length ≡ 0
@@ -78,5 +78,5 @@ empty-lengths zero e = refl
 empty-lengths (suc n) zero = refl
 empty-lengths (suc n) (suc e) = empty-lengths n e
 
-pub faulty-decoded : {t : Schema} {m : declared.Mapping} {f : ℕ} {J : Judged Mapping} → m ≡ emptyMapping (suc f) → J ≡ faulty (suc f) → Decoded t m J
-faulty-decoded {f} e h = rw (e, h) (record { says = rw (ne-eqb (suc f) 0 (λ q. omega arith)); short = record { each = λ e l. omega (arith, empty-lengths 32 e) } })
+pub faulty-decoded : {s : Schema} {f : declared.Mapping} {number : ℕ} {J : Judged Mapping} → f ≡ emptyMapping (suc number) → J ≡ faulty (suc number) → Decoded s f J
+faulty-decoded {number} e h = rw (e, h) (record { says = rw (ne-eqb (suc number) 0 (λ q. omega arith)); short = record { each = λ e l. omega (arith, empty-lengths 32 e) } })

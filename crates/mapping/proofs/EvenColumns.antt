@@ -24,7 +24,7 @@ use Rattle.mapping.proofs.Counting.{all-filter, all-both}
 use Rattle.mapping.proofs.Columns.{attributes-over}
 use Rattle.mapping.proofs.EvenPaths.{even-paths}
 
-module _ (s t : Schema) (m : Mapping) where
+module _ (s t : Schema) (f : Mapping) where
   abbrev S : meaning.Schema
   S = schemaOf s
 
@@ -32,21 +32,21 @@ module _ (s t : Schema) (m : Mapping) where
   T = schemaOf t
 
   abbrev F : formats.Mapping
-  F = mappingOf s m
+  F = mappingOf s f
 
   abbrev one : ℕ → ℕ → Bool
   one c b = eqb (length (attributesOver S F c b)) 1
 
-  even-columns : (c : ℕ) → c < s .graph .nodes → evenColumnsAt s t m c ≡ all (one c) (attributesAt T (nodeImage F c))
+  even-columns : (c : ℕ) → c < s .graph .nodes → evenColumnsAt s t f c ≡ all (one c) (attributesAt T (nodeImage F c))
   even-columns c l = sym (
       all-filter (λ b. eqb (attributeAt T b .node) (nodeImage F c)) (one c) (upto (length (T .attributes)))
       ∙ ap (λ (n : ℕ). all (λ b. cond (eqb (attributeAt T b .node) (nodeImage F c)) (one c b) true) (upto n)) (attributes-count t)
-      ∙ all-upto (λ b. cond (eqb (attributeAt T b .node) (nodeImage F c)) (one c b) true) (evenColumnAt (s .node) (m .attribute) (s .attributes) (t .node) c (getD (m .node) c 0)) (t .attributes)
-      (λ b k. rw (attribute-is t b k, node-at s m c l, attributes-over s m c b)))
+      ∙ all-upto (λ b. cond (eqb (attributeAt T b .node) (nodeImage F c)) (one c b) true) (evenColumnAt (s .node) (f .attribute) (s .attributes) (t .node) c (getD (f .node) c 0)) (t .attributes)
+      (λ b k. rw (attribute-is t b k, node-at s f c l, attributes-over s f c b)))
 
-  pub even-by : {sp tp : Paths} {over : List ℕ} → Schemas s t sp tp → Sound s t sp m → Filled 256 (sideClass (m .path) (tp .class)) 256 over →
-      even S T F ≡ (all (evenPathsAt sp tp over (m .node)) (upto (s .graph .nodes)) && all (evenColumnsAt s t m) (upto (s .graph .nodes)))
-  even-by {sp} {tp} {over} h k o =
-      all-upto (evenAt S T F) (λ c. evenPathsAt sp tp over (m .node) c && evenColumnsAt s t m c) (s .graph .nodes)
+  pub even-by : {source-paths target-paths : Paths} {over : List ℕ} → Schemas s t source-paths target-paths → Sound s t source-paths f → Filled 256 (sideClass (f .path) (target-paths .class)) 256 over →
+      even S T F ≡ (all (evenPathsAt source-paths target-paths over (f .node)) (upto (s .graph .nodes)) && all (evenColumnsAt s t f) (upto (s .graph .nodes)))
+  even-by {source-paths} {target-paths} {over} h k o =
+      all-upto (evenAt S T F) (λ c. evenPathsAt source-paths target-paths over (f .node) c && evenColumnsAt s t f c) (s .graph .nodes)
       (λ c l. rw (even-paths h k o c l, even-columns c l))
-      ∙ all-both (evenPathsAt sp tp over (m .node)) (evenColumnsAt s t m) (upto (s .graph .nodes))
+      ∙ all-both (evenPathsAt source-paths target-paths over (f .node)) (evenColumnsAt s t f) (upto (s .graph .nodes))

@@ -30,7 +30,7 @@ use Rattle.schema.specs.Classes.{IsPaths}
 use Rattle.mapping.specs.declared.Mapping.{Mapping}
 use Rattle.mapping.specs.Decoded.{mappingOf}
 use Rattle.mapping.specs.Judged.{Schemas, Imageable, Sound, sideClass}
-use Rattle.mapping.specs.Even.{liftClasses, agreesAt, metAt, evenPathsAt}
+use Rattle.mapping.specs.Even.{liftClasses, uniqueAt, hasLiftAt, evenPathsAt}
 use Rattle.mapping.proofs.Viewing.{node-at}
 use Rattle.mapping.proofs.Imaging.{image-path, image-below}
 use Rattle.mapping.proofs.ImageTable.{formed, images}
@@ -93,7 +93,7 @@ module _ {s : Schema} {p : Paths} (sound : schemas.Sound s) (t : IsPaths (schema
       record { number = numberOf G q; below = l; is = number-path G w; starts = t .table .columns .start .each (numberOf G q) l ∙ ap (λ (x : Path). x .start) (number-path G w) ∙ k .0 }
 
 -- ---- both tables
-module _ {s t : Schema} {sp tp : Paths} {m : Mapping} (h : Schemas s t sp tp) (k : Sound s t sp m) {over : List ℕ} (o : Filled 256 (sideClass (m .path) (tp .class)) 256 over) where
+module _ {s t : Schema} {source-paths target-paths : Paths} {f : Mapping} (h : Schemas s t source-paths target-paths) (k : Sound s t source-paths f) {over : List ℕ} (o : Filled 256 (sideClass (f .path) (target-paths .class)) 256 over) where
   abbrev S : meaning.Schema
   S = schemaOf s
 
@@ -101,22 +101,22 @@ module _ {s t : Schema} {sp tp : Paths} {m : Mapping} (h : Schemas s t sp tp) (k
   T = schemaOf t
 
   abbrev F : formats.Mapping
-  F = mappingOf s m
+  F = mappingOf s f
 
-  passed : Imageable s t sp tp m
+  passed : Imageable s t source-paths target-paths f
   passed = record { schemas = h; short = k .short; fits = k .fits }
 
-  few : (i : ℕ) → i < sp .count → i < 256
-  few i l = let f = h .source-paths .table .few in omega arith
+  few : (i : ℕ) → i < source-paths .count → i < 256
+  few i l = let few-paths = h .source-paths .table .few in omega arith
 
-  pub over-at : (i : ℕ) → i < sp .count → getD over i 0 ≡ classOf T (pathImage F (pathAt (S .graph) i))
+  pub over-at : (i : ℕ) → i < source-paths .count → getD over i 0 ≡ classOf T (pathImage F (pathAt (S .graph) i))
   over-at i l = o .each i (few i l) ∙ sym (image-class passed (k .images) i l)
 
-  over-low : (i : ℕ) → i < sp .count → getD over i 0 < 256
+  over-low : (i : ℕ) → i < source-paths .count → getD over i 0 < 256
   over-low i l =
       let j = image-below (formed (h .source)) (formed (h .target)) (images passed) i (let e = h .source-paths .table .counted in omega arith) in
-      let a : getD (m .path) i 0 < tp .count = omega (arith, k .images .each i l, h .target-paths .table .counted) in
-      omega (arith, o .each i (few i l), class-low (h .target) (h .target-paths) (getD (m .path) i 0) a)
+      let a : getD (f .path) i 0 < target-paths .count = omega (arith, k .images .each i l, h .target-paths .table .counted) in
+      omega (arith, o .each i (few i l), class-low (h .target) (h .target-paths) (getD (f .path) i 0) a)
 
   -- a path of S lies over a path of T where their classes are one
   over-in : (c : ℕ) (q p : Path) → List·Memᴰ p (pathsFrom (S .graph) c) → classOf T (pathImage F p) ≡ classOf T q → List·Memᴰ p (lifts S T F c q)
@@ -133,26 +133,26 @@ module _ {s t : Schema} {sp tp : Paths} {m : Mapping} (h : Schemas s t sp tp) (k
     d-in = images passed .node-in c l
 
     abbrev classesOver : List ℕ
-    classesOver = liftClasses (sp .start) (sp .class) over c (sp .count)
+    classesOver = liftClasses (source-paths .start) (source-paths .class) over c (source-paths .count)
 
-    abbrev agrees : ℕ → Bool
-    agrees = agreesAt (sp .start) (sp .class) over classesOver c
+    abbrev unique : ℕ → Bool
+    unique = uniqueAt (source-paths .start) (source-paths .class) over classesOver c
 
-    abbrev meets : ℕ → Bool
-    meets = metAt (tp .start) (tp .class) classesOver (getD (m .node) c 0)
+    abbrev hasLift : ℕ → Bool
+    hasLift = hasLiftAt (target-paths .start) (target-paths .class) classesOver (getD (f .node) c 0)
 
-    every : (i : ℕ) → i < sp .count → getD (sp .start) i 0 ≡ c → getD classesOver (getD over i 0) 0 ≡ 256 → ⊥
-    every i b e = lifts-every (sp .start) (sp .class) over c (sp .count) i (class-low (h .source) (h .source-paths)) b (over-low i b) e
+    every : (i : ℕ) → i < source-paths .count → getD (source-paths .start) i 0 ≡ c → getD classesOver (getD over i 0) 0 ≡ 256 → ⊥
+    every i b e = lifts-every (source-paths .start) (source-paths .class) over c (source-paths .count) i (class-low (h .source) (h .source-paths)) b (over-low i b) e
 
     -- ---- from the arrays
-    module _ (a : all agrees (upto (sp .count)) ≡ true) (e : all meets (upto (tp .count)) ≡ true) where
-      agrees-class : (p : Path) → List·Memᴰ p (pathsFrom (S .graph) c) → classOf S p ≡ getD classesOver (classOf T (pathImage F p)) 0
-      agrees-class p i =
+    module _ (a : all unique (upto (source-paths .count)) ≡ true) (e : all hasLift (upto (target-paths .count)) ≡ true) where
+      unique-class : (p : Path) → List·Memᴰ p (pathsFrom (S .graph) c) → classOf S p ≡ getD classesOver (classOf T (pathImage F p)) 0
+      unique-class p i =
           let n = numbered (h .source) (h .source-paths) c l p i in
           let x = n .number in
-          let u : getD classesOver (getD over x 0) 0 ≡ getD (sp .class) x 0 =
-          eqb-true (getD classesOver (getD over x 0) 0) (getD (sp .class) x 0)
-          (subst (λ (b : Bool). cond b (eqb (getD classesOver (getD over x 0) 0) (getD (sp .class) x 0)) true ≡ true) (eq-eqb (getD (sp .start) x 0) c (n .starts)) (upto-all agrees (sp .count) a x (n .below))) in
+          let u : getD classesOver (getD over x 0) 0 ≡ getD (source-paths .class) x 0 =
+          eqb-true (getD classesOver (getD over x 0) 0) (getD (source-paths .class) x 0)
+          (subst (λ (b : Bool). cond b (eqb (getD classesOver (getD over x 0) 0) (getD (source-paths .class) x 0)) true ≡ true) (eq-eqb (getD (source-paths .start) x 0) c (n .starts)) (upto-all unique (source-paths .count) a x (n .below))) in
           subst (λ (w : Path). classOf S w ≡ getD classesOver (classOf T (pathImage F w)) 0) (n .is)
           (sym (class-at (h .source) (h .source-paths) x (n .below)) ∙ sym u ∙ ap (λ (y : ℕ). getD classesOver y 0) (over-at x (n .below)))
 
@@ -160,10 +160,10 @@ module _ {s t : Schema} {sp tp : Paths} {m : Mapping} (h : Schemas s t sp tp) (k
       some-lift q i =
           let n = numbered (h .target) (h .target-paths) d d-in q i in
           let y = n .number in
-          let u : not (eqb (getD classesOver (getD (tp .class) y 0) 0) 256) ≡ true =
-          subst (λ (b : Bool). cond b (not (eqb (getD classesOver (getD (tp .class) y 0) 0) 256)) true ≡ true) (eq-eqb (getD (tp .start) y 0) (getD (m .node) c 0) (n .starts ∙ node-at s m c l)) (upto-all meets (tp .count) e y (n .below)) in
-          let v = lifts-some (sp .start) (sp .class) over c (sp .count) (getD (tp .class) y 0) (class-low (h .target) (h .target-paths) y (n .below))
-          (λ z. is-not (eqb (getD classesOver (getD (tp .class) y 0) 0) 256) u (eq-eqb (getD classesOver (getD (tp .class) y 0) 0) 256 z)) in
+          let u : not (eqb (getD classesOver (getD (target-paths .class) y 0) 0) 256) ≡ true =
+          subst (λ (b : Bool). cond b (not (eqb (getD classesOver (getD (target-paths .class) y 0) 0) 256)) true ≡ true) (eq-eqb (getD (target-paths .start) y 0) (getD (f .node) c 0) (n .starts ∙ node-at s f c l)) (upto-all hasLift (target-paths .count) e y (n .below)) in
+          let v = lifts-some (source-paths .start) (source-paths .class) over c (source-paths .count) (getD (target-paths .class) y 0) (class-low (h .target) (h .target-paths) y (n .below))
+          (λ z. is-not (eqb (getD classesOver (getD (target-paths .class) y 0) 0) 256) u (eq-eqb (getD classesOver (getD (target-paths .class) y 0) 0) 256 z)) in
           let x = v .number in (
             pathAt (S .graph) x,
             over-in c q (pathAt (S .graph) x) (from-table (h .source) (h .source-paths) c x l (v .below) (v .starts))
@@ -174,42 +174,42 @@ module _ {s t : Schema} {sp tp : Paths} {m : Mapping} (h : Schemas s t sp tp) (k
       one-lift q i = same-oneClass S (lifts S T F c q) (some-lift q i .1) (λ p r x y.
           let u = over-of c q p x in
           let v = over-of c q r y in
-          agrees-class p (u .0) ∙ ap (λ (z : ℕ). getD classesOver z 0) (u .1 ∙ sym (v .1)) ∙ sym (agrees-class r (v .0)))
+          unique-class p (u .0) ∙ ap (λ (z : ℕ). getD classesOver z 0) (u .1 ∙ sym (v .1)) ∙ sym (unique-class r (v .0)))
 
     -- ---- to the arrays
     module _ (e : all (λ q. oneClass S (lifts S T F c q)) (pathsFrom (T .graph) d) ≡ true) where
-      image-from : (x : ℕ) → x < sp .count → getD (sp .start) x 0 ≡ c → List·Memᴰ (pathImage F (pathAt (S .graph) x)) (pathsFrom (T .graph) d)
+      image-from : (x : ℕ) → x < source-paths .count → getD (source-paths .start) x 0 ≡ c → List·Memᴰ (pathImage F (pathAt (S .graph) x)) (pathsFrom (T .graph) d)
       image-from x b z =
           let p = pathAt (S .graph) x in
           let w = pathsFrom-each S (formed (h .source)) c l p .0 (from-table (h .source) (h .source-paths) c x l b z) in
           pathsFrom-each T (formed (h .target)) d d-in (pathImage F p) .1 (ap (nodeImage F) (w .0), image-path (formed (h .source)) (formed (h .target)) (images passed) c (p .edges) (w .1))
 
-      each-agrees : (x : ℕ) → x < sp .count → agrees x ≡ true
-      each-agrees x b = cond-is (eqb (getD (sp .start) x 0) c) (eqb (getD classesOver (getD over x 0) 0) (getD (sp .class) x 0)) (λ z.
-          let st = eqb-true (getD (sp .start) x 0) c z in
+      each-unique : (x : ℕ) → x < source-paths .count → unique x ≡ true
+      each-unique x b = cond-is (eqb (getD (source-paths .start) x 0) c) (eqb (getD classesOver (getD over x 0) 0) (getD (source-paths .class) x 0)) (λ z.
+          let st = eqb-true (getD (source-paths .start) x 0) c z in
           let q = pathImage F (pathAt (S .graph) x) in
-          let v = lifts-some (sp .start) (sp .class) over c (sp .count) (getD over x 0) (over-low x b) (every x b st) in
+          let v = lifts-some (source-paths .start) (source-paths .class) over c (source-paths .count) (getD over x 0) (over-low x b) (every x b st) in
           let y = v .number in
           let one = all-of (λ (q : Path). oneClass S (lifts S T F c q)) (pathsFrom (T .graph) d) e (image-from x b st) in
           let same = oneClass-same S (lifts S T F c q) one (pathAt (S .graph) y) (pathAt (S .graph) x)
           (over-in c q (pathAt (S .graph) y) (from-table (h .source) (h .source-paths) c y l (v .below) (v .starts)) (sym (over-at y (v .below)) ∙ v .lies ∙ over-at x b))
           (over-in c q (pathAt (S .graph) x) (from-table (h .source) (h .source-paths) c x l b st) refl) in
-          eq-eqb (getD classesOver (getD over x 0) 0) (getD (sp .class) x 0)
+          eq-eqb (getD classesOver (getD over x 0) 0) (getD (source-paths .class) x 0)
           (sym (v .has) ∙ class-at (h .source) (h .source-paths) y (v .below) ∙ same ∙ sym (class-at (h .source) (h .source-paths) x b)))
 
-      each-meets : (y : ℕ) → y < tp .count → meets y ≡ true
-      each-meets y b = cond-is (eqb (getD (tp .start) y 0) (getD (m .node) c 0)) (not (eqb (getD classesOver (getD (tp .class) y 0) 0) 256)) (λ z.
-          let st : getD (tp .start) y 0 ≡ d = eqb-true (getD (tp .start) y 0) (getD (m .node) c 0) z ∙ sym (node-at s m c l) in
+      each-has-lift : (y : ℕ) → y < target-paths .count → hasLift y ≡ true
+      each-has-lift y b = cond-is (eqb (getD (target-paths .start) y 0) (getD (f .node) c 0)) (not (eqb (getD classesOver (getD (target-paths .class) y 0) 0) 256)) (λ z.
+          let st : getD (target-paths .start) y 0 ≡ d = eqb-true (getD (target-paths .start) y 0) (getD (f .node) c 0) z ∙ sym (node-at s f c l) in
           let q = pathAt (T .graph) y in
           let p = oneClass-some S (lifts S T F c q) (all-of (λ (q : Path). oneClass S (lifts S T F c q)) (pathsFrom (T .graph) d) e (from-table (h .target) (h .target-paths) d y d-in b st)) in
           let u = over-of c q (p .0) (p .1) in
           let n = numbered (h .source) (h .source-paths) c l (p .0) (u .0) in
           let x = n .number in
-          let f : getD over x 0 ≡ getD (tp .class) y 0 = over-at x (n .below) ∙ ap (λ (w : Path). classOf T (pathImage F w)) (n .is) ∙ u .1 ∙ sym (class-at (h .target) (h .target-paths) y b) in
-          not-is (eqb (getD classesOver (getD (tp .class) y 0) 0) 256) (λ r.
-          every x (n .below) (n .starts) (ap (λ (w : ℕ). getD classesOver w 0) f ∙ eqb-true (getD classesOver (getD (tp .class) y 0) 0) 256 r)))
+          let lies-over : getD over x 0 ≡ getD (target-paths .class) y 0 = over-at x (n .below) ∙ ap (λ (w : Path). classOf T (pathImage F w)) (n .is) ∙ u .1 ∙ sym (class-at (h .target) (h .target-paths) y b) in
+          not-is (eqb (getD classesOver (getD (target-paths .class) y 0) 0) 256) (λ r.
+          every x (n .below) (n .starts) (ap (λ (w : ℕ). getD classesOver w 0) lies-over ∙ eqb-true (getD classesOver (getD (target-paths .class) y 0) 0) 256 r)))
 
-    pub even-paths : evenPathsAt sp tp over (m .node) c ≡ all (λ q. oneClass S (lifts S T F c q)) (pathsFrom (T .graph) d)
-    even-paths = both-ways (all agrees (upto (sp .count)) && all meets (upto (tp .count))) (all (λ q. oneClass S (lifts S T F c q)) (pathsFrom (T .graph) d))
-        (λ e. let u = and-both (all agrees (upto (sp .count))) (all meets (upto (tp .count))) e in all-in (λ (q : Path). oneClass S (lifts S T F c q)) (pathsFrom (T .graph) d) (λ q i. one-lift (u .0) (u .1) q i))
-        (λ e. and-intro (all-upto agrees (sp .count) (each-agrees e)) (all-upto meets (tp .count) (each-meets e)))
+    pub even-paths : evenPathsAt source-paths target-paths over (f .node) c ≡ all (λ q. oneClass S (lifts S T F c q)) (pathsFrom (T .graph) d)
+    even-paths = both-ways (all unique (upto (source-paths .count)) && all hasLift (upto (target-paths .count))) (all (λ q. oneClass S (lifts S T F c q)) (pathsFrom (T .graph) d))
+        (λ e. let u = and-both (all unique (upto (source-paths .count))) (all hasLift (upto (target-paths .count))) e in all-in (λ (q : Path). oneClass S (lifts S T F c q)) (pathsFrom (T .graph) d) (λ q i. one-lift (u .0) (u .1) q i))
+        (λ e. and-intro (all-upto unique (source-paths .count) (each-unique e)) (all-upto hasLift (target-paths .count) (each-has-lift e)))

@@ -24,15 +24,15 @@ use Rattle.mapping.proofs.Viewing.{node-at, edge-at, attribute-at, attr
 
 -- ---- the tests of an edge and of an attribute, by arrays
 abbrev pub edgeTest : Graph → Graph → Mapping → ℕ → Bool
-edgeTest g h m e =
-    joins (graphOf h) (getD (m .node) (getD (g .source) e 0) 0) (imageOf (getD (m .edge) e noImage)) &&
-    eqb (endpoint (target (graphOf h)) (getD (m .node) (getD (g .source) e 0) 0) (imageOf (getD (m .edge) e noImage))) (getD (m .node) (getD (g .target) e 0) 0)
+edgeTest g h f e =
+    joins (graphOf h) (getD (f .node) (getD (g .source) e 0) 0) (imageOf (getD (f .edge) e noImage)) &&
+    eqb (endpoint (target (graphOf h)) (getD (f .node) (getD (g .source) e 0) 0) (imageOf (getD (f .edge) e noImage))) (getD (f .node) (getD (g .target) e 0) 0)
 
 abbrev pub attributeTest : Schema → Schema → Mapping → ℕ → Bool
-attributeTest s t m a =
-    ltb (getD (m .attribute) a 0) (t .attributes) &&
-    eqb (getD (t .kind) (getD (m .attribute) a 0) 0) (getD (s .kind) a 0) &&
-    eqb (getD (t .node) (getD (m .attribute) a 0) 0) (getD (m .node) (getD (s .node) a 0) 0)
+attributeTest s t f a =
+    ltb (getD (f .attribute) a 0) (t .attributes) &&
+    eqb (getD (t .kind) (getD (f .attribute) a 0) 0) (getD (s .kind) a 0) &&
+    eqb (getD (t .node) (getD (f .attribute) a 0) 0) (getD (f .node) (getD (s .node) a 0) 0)
 
 module _ (s : Schema) (S-is : Sound s) where
   pub source-in : (e : ℕ) → e < s .graph .edges → getD (s .graph .source) e 0 < s .graph .nodes
@@ -46,43 +46,43 @@ module _ (s : Schema) (S-is : Sound s) where
       let h = schema-is (schemaOf s) (S-is .well-formed) .home-in a (rw (attributes-count s) l) in
       rw (attribute-is s a l) at h
 
-module _ (s t : Schema) (m : Mapping) (S-is : Sound s) where
-  edge-test : (e : ℕ) → e < s .graph .edges → edgeImageFits (schemaOf s) (schemaOf t) (mappingOf s m) e ≡ edgeTest (s .graph) (t .graph) m e
+module _ (s t : Schema) (f : Mapping) (S-is : Sound s) where
+  edge-test : (e : ℕ) → e < s .graph .edges → edgeImageFits (schemaOf s) (schemaOf t) (mappingOf s f) e ≡ edgeTest (s .graph) (t .graph) f e
   edge-test e l =
       rw (
         source-at (s .graph .edges) (s .graph .source) (s .graph .target) e l,
         target-at (s .graph .edges) (s .graph .source) (s .graph .target) e l,
-        edge-at s m e l,
-        node-at s m (getD (s .graph .source) e 0) (source-in s S-is e l),
-        node-at s m (getD (s .graph .target) e 0) (target-in s S-is e l),
+        edge-at s f e l,
+        node-at s f (getD (s .graph .source) e 0) (source-in s S-is e l),
+        node-at s f (getD (s .graph .target) e 0) (target-in s S-is e l),
       )
 
-  pub edges-test : all (edgeImageFits (schemaOf s) (schemaOf t) (mappingOf s m)) (upto (s .graph .edges)) ≡ all (edgeTest (s .graph) (t .graph) m) (upto (s .graph .edges))
-  edges-test = all-upto (edgeImageFits (schemaOf s) (schemaOf t) (mappingOf s m)) (edgeTest (s .graph) (t .graph) m) (s .graph .edges) edge-test
+  pub edges-test : all (edgeImageFits (schemaOf s) (schemaOf t) (mappingOf s f)) (upto (s .graph .edges)) ≡ all (edgeTest (s .graph) (t .graph) f) (upto (s .graph .edges))
+  edges-test = all-upto (edgeImageFits (schemaOf s) (schemaOf t) (mappingOf s f)) (edgeTest (s .graph) (t .graph) f) (s .graph .edges) edge-test
 
-  attribute-test : (a : ℕ) → a < s .attributes → attributeImageFits (schemaOf s) (schemaOf t) (mappingOf s m) a ≡ attributeTest s t m a
+  attribute-test : (a : ℕ) → a < s .attributes → attributeImageFits (schemaOf s) (schemaOf t) (mappingOf s f) a ≡ attributeTest s t f a
   attribute-test a l =
-      rw (attribute-at s m a l, attribute-is s a l, node-at s m (getD (s .node) a 0) (home-in s S-is a l), attributes-count t) (go (ltb b (t .attributes)) refl)
+      rw (attribute-at s f a l, attribute-is s a l, node-at s f (getD (s .node) a 0) (home-in s S-is a l), attributes-count t) (go (ltb b (t .attributes)) refl)
     where
       b : ℕ
-      b = getD (m .attribute) a 0
+      b = getD (f .attribute) a 0
 
       go : (x : Bool) → ltb b (t .attributes) ≡ x →
-          (x && eqb (attributeAt (schemaOf t) b .kind) (getD (s .kind) a 0) && eqb (attributeAt (schemaOf t) b .node) (getD (m .node) (getD (s .node) a 0) 0))
-          ≡ (x && eqb (getD (t .kind) b 0) (getD (s .kind) a 0) && eqb (getD (t .node) b 0) (getD (m .node) (getD (s .node) a 0) 0))
+          (x && eqb (attributeAt (schemaOf t) b .kind) (getD (s .kind) a 0) && eqb (attributeAt (schemaOf t) b .node) (getD (f .node) (getD (s .node) a 0) 0))
+          ≡ (x && eqb (getD (t .kind) b 0) (getD (s .kind) a 0) && eqb (getD (t .node) b 0) (getD (f .node) (getD (s .node) a 0) 0))
       go true e = rw (attribute-is t b (ltb-true b (t .attributes) e))
       go false e = refl
 
-  pub attributes-test : all (attributeImageFits (schemaOf s) (schemaOf t) (mappingOf s m)) (upto (s .attributes)) ≡ all (attributeTest s t m) (upto (s .attributes))
-  attributes-test = all-upto (attributeImageFits (schemaOf s) (schemaOf t) (mappingOf s m)) (attributeTest s t m) (s .attributes) attribute-test
+  pub attributes-test : all (attributeImageFits (schemaOf s) (schemaOf t) (mappingOf s f)) (upto (s .attributes)) ≡ all (attributeTest s t f) (upto (s .attributes))
+  attributes-test = all-upto (attributeImageFits (schemaOf s) (schemaOf t) (mappingOf s f)) (attributeTest s t f) (s .attributes) attribute-test
 
 -- the nodes' test gives what the others rely on
-pub nodes-in : {s t : Schema} {m : Mapping} → all (λ d. ltb d (t .graph .nodes)) (firstOf (s .graph .nodes) (m .node)) ≡ true → NodesIn s t m
-nodes-in {s} {t} {m} h = record { each = λ c l. ltb-true (getD (m .node) c 0) (t .graph .nodes) (all-at (λ d. ltb d (t .graph .nodes)) (s .graph .nodes) (λ i. getD (m .node) i 0) h c l) }
+pub nodes-in : {s t : Schema} {f : Mapping} → all (λ d. ltb d (t .graph .nodes)) (firstOf (s .graph .nodes) (f .node)) ≡ true → NodesIn s t f
+nodes-in {s} {t} {f} h = record { each = λ c l. ltb-true (getD (f .node) c 0) (t .graph .nodes) (all-at (λ d. ltb d (t .graph .nodes)) (s .graph .nodes) (λ i. getD (f .node) i 0) h c l) }
 
 -- all three together
-pub fits-by : (s t : Schema) (m : Mapping) → imagesFit (schemaOf s) (schemaOf t) (mappingOf s m) ≡
-    (all (λ d. ltb d (t .graph .nodes)) (firstOf (s .graph .nodes) (m .node)) &&
-    all (edgeImageFits (schemaOf s) (schemaOf t) (mappingOf s m)) (upto (s .graph .edges)) &&
-    all (attributeImageFits (schemaOf s) (schemaOf t) (mappingOf s m)) (upto (s .attributes)))
-fits-by s t m = rw (edges-count (s .graph .edges) (s .graph .source) (s .graph .target), attributes-count s)
+pub fits-by : (s t : Schema) (f : Mapping) → imagesFit (schemaOf s) (schemaOf t) (mappingOf s f) ≡
+    (all (λ d. ltb d (t .graph .nodes)) (firstOf (s .graph .nodes) (f .node)) &&
+    all (edgeImageFits (schemaOf s) (schemaOf t) (mappingOf s f)) (upto (s .graph .edges)) &&
+    all (attributeImageFits (schemaOf s) (schemaOf t) (mappingOf s f)) (upto (s .attributes)))
+fits-by s t f = rw (edges-count (s .graph .edges) (s .graph .source) (s .graph .target), attributes-count s)

@@ -24,41 +24,41 @@ use Rattle.mapping.proofs.Imaging.{fits, image-trivial, image-next, ima
 pub formed : {s : Schema} → Sound s → WellFormed (schemaOf s)
 formed h = record { fits = h .well-formed; acyclic = h .acyclic }
 
-module _ {s t : Schema} {sp tp : Paths} {m : Mapping} (h : Imageable s t sp tp m) where
+module _ {s t : Schema} {source-paths target-paths : Paths} {f : Mapping} (h : Imageable s t source-paths target-paths f) where
   abbrev number : ℕ → ℕ
-  number = imageNumber (schemaOf s) (schemaOf t) (mappingOf s m)
+  number = imageNumber (schemaOf s) (schemaOf t) (mappingOf s f)
 
-  pub images : Fits (schemaOf s) (schemaOf t) (mappingOf s m)
-  images = fits s (schemaOf t) m (h .fits)
+  pub images : Fits (schemaOf s) (schemaOf t) (mappingOf s f)
+  images = fits s (schemaOf t) f (h .fits)
 
-  pub number-low : (i : ℕ) → i < sp .count → number i < 256
+  pub number-low : (i : ℕ) → i < source-paths .count → number i < 256
   number-low i l =
       let e = h .schemas .source-paths .table .counted in
-      let f = h .schemas .target-paths .table .few in
+      let few = h .schemas .target-paths .table .few in
       let g = h .schemas .target-paths .table .counted in
       omega (arith, image-below (formed (h .schemas .source)) (formed (h .schemas .target)) images i (omega arith))
 
-  pub trivial-image : (k : ℕ) → k < s .graph .nodes → getD (m .node) k 0 ≡ number k
-  trivial-image k l = sym (node-at s m k l) ∙ sym (image-trivial (formed (h .schemas .source)) (formed (h .schemas .target)) images k l)
+  pub trivial-image : (k : ℕ) → k < s .graph .nodes → getD (f .node) k 0 ≡ number k
+  trivial-image k l = sym (node-at s f k l) ∙ sym (image-trivial (formed (h .schemas .source)) (formed (h .schemas .target)) images k l)
 
   -- the image of path k, where those of the paths before it are there
   pub record Turn (path : List ℕ) (k : ℕ) : Type 0 where
-    pub parent-below : getD (sp .parent) k 0 < k
-    pub last-in : getD (sp .last) k 0 < s .graph .edges
-    pub short : getD (m .edge) (getD (sp .last) k 0) noImage .length ≤ 15
-    pub within : WalkIn (tp .first) (tp .rank) (getD path (getD (sp .parent) k 0) 0) (imageOf (getD (m .edge) (getD (sp .last) k 0) noImage))
-    pub is : walkFrom (tp .first) (tp .rank) (getD path (getD (sp .parent) k 0) 0) (imageOf (getD (m .edge) (getD (sp .last) k 0) noImage)) ≡ number k
+    pub parent-below : getD (source-paths .parent) k 0 < k
+    pub last-in : getD (source-paths .last) k 0 < s .graph .edges
+    pub short : getD (f .edge) (getD (source-paths .last) k 0) noImage .length ≤ 15
+    pub within : WalkIn (target-paths .first) (target-paths .rank) (getD path (getD (source-paths .parent) k 0) 0) (imageOf (getD (f .edge) (getD (source-paths .last) k 0) noImage))
+    pub is : walkFrom (target-paths .first) (target-paths .rank) (getD path (getD (source-paths .parent) k 0) 0) (imageOf (getD (f .edge) (getD (source-paths .last) k 0) noImage)) ≡ number k
 
-  pub longer-image : {path : List ℕ} {k : ℕ} → Filled 256 number k path → s .graph .nodes ≤ k → k < sp .count → Turn path k
+  pub longer-image : {path : List ℕ} {k : ℕ} → Filled 256 number k path → s .graph .nodes ≤ k → k < source-paths .count → Turn path k
   longer-image {path} {k} p l b =
       let G = graphOf (s .graph) in
       let c = h .schemas .source-paths .table .columns in
-      let x : getD (sp .parent) k 0 ≡ parentOf G k = c .parent .each k b in
-      let e : getD (sp .last) k 0 ≡ lastOf G k = c .last .each k b in
-      let n = image-next (formed (h .schemas .source)) (formed (h .schemas .target)) images (table-index t tp (h .schemas .target) (h .schemas .target-paths .table)) k l (let z = h .schemas .source-paths .table .counted in omega arith) in
+      let x : getD (source-paths .parent) k 0 ≡ parentOf G k = c .parent .each k b in
+      let e : getD (source-paths .last) k 0 ≡ lastOf G k = c .last .each k b in
+      let n = image-next (formed (h .schemas .source)) (formed (h .schemas .target)) images (table-index t target-paths (h .schemas .target) (h .schemas .target-paths .table)) k l (let z = h .schemas .source-paths .table .counted in omega arith) in
       let i : lastOf G k < s .graph .edges = omega (arith, n .last-in, edges-count (s .graph .edges) (s .graph .source) (s .graph .target)) in
       let y : getD path (parentOf G k) 0 ≡ number (parentOf G k) = p .each (parentOf G k) (n .parent-below) in
-      let w = edge-at s m (lastOf G k) i in
+      let w = edge-at s f (lastOf G k) i in
       record {
         parent-below = rw x (n .parent-below);
         last-in = rw e i;

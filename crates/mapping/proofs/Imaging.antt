@@ -28,16 +28,16 @@ use Rattle.mapping.specs.declared.Mapping as declaredMapping
 use Rattle.mapping.specs.Decoded.{mappingOf}
 use Rattle.mapping.specs.Judged.{imageNumber}
 
-module _ (s : declared.Schema) (T : Schema) (m : declaredMapping.Mapping) where
+module _ (s : declared.Schema) (T : Schema) (f : declaredMapping.Mapping) where
   abbrev S : Schema
   S = schemas.schemaOf s
 
   abbrev F : Mapping
-  F = mappingOf s m
+  F = mappingOf s f
 
   -- what refusal 7 leaves
   pub fits : imagesFit S T F ≡ true → Fits S T F
-  fits = agreement.fits S T F (tabulate-length (s .graph .nodes) (λ i. getD (m .node) i 0))
+  fits = agreement.fits S T F (tabulate-length (s .graph .nodes) (λ i. getD (f .node) i 0))
 
 module _ {S T : Schema} {F : Mapping} (formed : WellFormed S) (target-formed : WellFormed T) (f : Fits S T F) where
   -- a path's image is a path, and ends at the image of its end

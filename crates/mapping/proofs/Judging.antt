@@ -10,12 +10,12 @@ use Rattle.mapping.specs.declared.Mapping.{Mapping}
 use Rattle.mapping.specs.Decoded.{emptyMapping, mappingOf, Decoded}
 use Rattle.mapping.specs.Judged.{Says}
 
-pub faulty-says : {s t : Schema} {sp : Paths} {m : Mapping} {k : ℕ} {J : Judged formats.Mapping} → m ≡ emptyMapping k → (k ≡ 0 → ⊥) → J ≡ faulty k → Says s t sp m J
+pub faulty-says : {s t : Schema} {source-paths : Paths} {f : Mapping} {k : ℕ} {J : Judged formats.Mapping} → f ≡ emptyMapping k → (k ≡ 0 → ⊥) → J ≡ faulty k → Says s t source-paths f J
 faulty-says {k} e some h = rw (e, h) (record { says = rw (ne-eqb k 0 some); sound = λ q. absurd (some q) })
 
-module _ {s : Schema} {m : Mapping} {J : Judged formats.Mapping} (d : Decoded s m J) where
-  pub decoded-sound : m .fault ≡ 0 → J ≡ sound (mappingOf s m)
-  decoded-sound e = sym (d .says) ∙ rw (eq-eqb (m .fault) 0 e)
+module _ {s : Schema} {f : Mapping} {J : Judged formats.Mapping} (d : Decoded s f J) where
+  pub decoded-sound : f .fault ≡ 0 → J ≡ sound (mappingOf s f)
+  decoded-sound e = sym (d .says) ∙ rw (eq-eqb (f .fault) 0 e)
 
-  pub decoded-faulty : (m .fault ≡ 0 → ⊥) → J ≡ faulty (m .fault)
-  decoded-faulty e = sym (d .says) ∙ rw (ne-eqb (m .fault) 0 e)
+  pub decoded-faulty : (f .fault ≡ 0 → ⊥) → J ≡ faulty (f .fault)
+  decoded-faulty e = sym (d .says) ∙ rw (ne-eqb (f .fault) 0 e)

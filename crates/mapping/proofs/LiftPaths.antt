@@ -1,5 +1,5 @@
 -- Lifts by the tables of paths: those of a class at c are the numbers at which two arrays have c and the class, and the lift of an edge is the first.
-use Prim.Native.Nat.{ℕ, _+_, _<_}
+use Prim.Native.Nat.{ℕ, _+_, _<_, _≤_}
 use mathlib.Core.Path.{_≡_, refl, sym, ap, _∙_, subst}
 use mathlib.Core.Bool.{Bool, true, false, _&&_}
 use mathlib.Core.List.{List, [], _∷_, _++_, map, List·Memᴰ, List·Memᴰ·head, List·Memᴰ·tail}
@@ -62,12 +62,13 @@ module _ {A : Type 0} (l : List A) (d : A) where
   pub filter-place : (f : A → Bool) → filter f l ≡ map (λ i. getD l i d) (filter (λ i. f (getD l i d)) (upto (length l)))
   filter-place f = ap (filter f) by-place ∙ filter-map f (λ i. getD l i d) (upto (length l))
 
-headOr-below : (n d : ℕ) (f : ℕ → Bool) → d < n → headOr d (filter f (upto n)) < n
-headOr-below n d f h = go (filter f (upto n)) (λ x m. of-upto n (filter-of f (upto n) m .0))
+-- the first of the numbers below n that pass a test, or d
+pub headOr-below : (n b d : ℕ) (f : ℕ → Bool) → n ≤ b → d < b → headOr d (filter f (upto n)) < b
+headOr-below n b d f h z = go (filter f (upto n)) (λ x m. of-upto n (filter-of f (upto n) m .0))
   where
-    go : (l : List ℕ) → ((x : ℕ) → List·Memᴰ x l → x < n) → headOr d l < n
-    go [] k = h
-    go (x ∷ l) k = k x (List·Memᴰ·head refl)
+    go : (l : List ℕ) → ((x : ℕ) → List·Memᴰ x l → x < n) → headOr d l < b
+    go [] k = z
+    go (x ∷ l) k = omega (arith, k x (List·Memᴰ·head refl))
 
 -- ---- the paths from c among all paths
 module _ (S : meaning.Schema) (f : WellFormed S) (c : ℕ) (h : c < S .graph .nodes) where
@@ -92,7 +93,7 @@ module _ (S : meaning.Schema) (f : WellFormed S) (c : ℕ) (h : c < S .graph .no
       pathsFrom-each S f c h p .1 (e, subst (λ (n : ℕ). IsPath (views.schemaOf S) n (p .edges)) e (allPaths-each S f p .0 (k .0))))
 
 -- ---- lifts
-module _ {s t : Schema} {sp tp : Paths} {m : Mapping} (h : Schemas s t sp tp) (k : Sound s t sp m) {over : List ℕ} (o : Filled 256 (sideClass (m .path) (tp .class)) 256 over) (c : ℕ) (l : c < s .graph .nodes) where
+module _ {s t : Schema} {source-paths target-paths : Paths} {f : Mapping} (h : Schemas s t source-paths target-paths) (k : Sound s t source-paths f) {over : List ℕ} (o : Filled 256 (sideClass (f .path) (target-paths .class)) 256 over) (c : ℕ) (l : c < s .graph .nodes) where
   abbrev S : meaning.Schema
   S = schemaOf s
 
@@ -100,7 +101,7 @@ module _ {s t : Schema} {sp tp : Paths} {m : Mapping} (h : Schemas s t sp tp) (k
   T = schemaOf t
 
   abbrev F : formats.Mapping
-  F = mappingOf s m
+  F = mappingOf s f
 
   abbrev G : meaning.Graph
   G = graphOf (s .graph)
@@ -109,45 +110,45 @@ module _ {s t : Schema} {sp tp : Paths} {m : Mapping} (h : Schemas s t sp tp) (k
   H = graphOf (t .graph)
 
   -- the lifts of q at c, by their numbers
-  pub lifts-are : (q : Path) → lifts S T F c q ≡ map (pathAt G) (filter (isOver (sp .start) over c (classOf T q)) (upto (sp .count)))
+  lifts-are : (q : Path) → lifts S T F c q ≡ map (pathAt G) (filter (isOver (source-paths .start) over c (classOf T q)) (upto (source-paths .count)))
   lifts-are q =
       ap (filter (λ p. equal T (pathImage F p) q)) (paths-from S (formed (h .source)) c l)
       ∙ filter-filter (λ p. eqb (p .start) c) (λ p. equal T (pathImage F p) q) (allPaths G)
       ∙ filter-place (allPaths G) (path 0 []) (λ p. eqb (p .start) c && equal T (pathImage F p) q)
       ∙ ap (λ (n : ℕ). map (pathAt G) (filter (λ i. eqb (pathAt G i .start) c && equal T (pathImage F (pathAt G i)) q) (upto n))) (sym (h .source-paths .table .counted))
-      ∙ ap (map (pathAt G)) (filter-same (λ i. eqb (pathAt G i .start) c && equal T (pathImage F (pathAt G i)) q) (isOver (sp .start) over c (classOf T q)) (upto (sp .count))
-      (λ i w. let b = of-upto (sp .count) w in rw (h .source-paths .table .columns .start .each i b, over-at h k o i b)))
+      ∙ ap (map (pathAt G)) (filter-same (λ i. eqb (pathAt G i .start) c && equal T (pathImage F (pathAt G i)) q) (isOver (source-paths .start) over c (classOf T q)) (upto (source-paths .count))
+      (λ i w. let b = of-upto (source-paths .count) w in rw (h .source-paths .table .columns .start .each i b, over-at h k o i b)))
 
-  passed : Imageable s t sp tp m
+  passed : Imageable s t source-paths target-paths f
   passed = record { schemas = h; short = k .short; fits = k .fits }
 
   -- an edge of T from F(c), as a path: its number, and its class
-  module _ (e : ℕ) (b : e < t .graph .edges) (at : getD (t .graph .source) e 0 ≡ getD (m .node) c 0) where
+  module _ (e : ℕ) (b : e < t .graph .edges) (at : getD (t .graph .source) e 0 ≡ getD (f .node) c 0) where
     abbrev number : ℕ
-    number = getD (tp .first) (getD (m .node) c 0) 0 + getD (tp .rank) e 0
+    number = getD (target-paths .first) (getD (f .node) c 0) 0 + getD (target-paths .rank) e 0
 
     pub record EdgePath : Type 0 where
-      pub node-low : getD (m .node) c 0 < 257
+      pub node-low : getD (f .node) c 0 < 257
       pub edge-low : e < 32
       pub number-low : number < 256
-      pub class : classOf T (path (nodeImage F c) (e ∷ [])) ≡ getD (tp .class) number 0
+      pub class : classOf T (path (nodeImage F c) (e ∷ [])) ≡ getD (target-paths .class) number 0
 
     pub edge-path : EdgePath
     edge-path =
-        let d : ℕ = getD (m .node) c 0 in
-        let n = node-at s m c l in
+        let d : ℕ = getD (f .node) c 0 in
+        let n = node-at s f c l in
         let i : d < t .graph .nodes = rw n at (images passed .node-in c l) in
         let j : d < pathCount H = omega (arith, trivial-count H (h .target .acyclic)) in
         let q = h .target-paths .table in
         let u = q .counted in
-        let f = q .few in
+        let few = q .few in
         let v = h .target .limits .edges in
         let z = edges-count (t .graph .edges) (t .graph .source) (t .graph .target) in
         let x = trivial-at H (h .target .acyclic) d i in
         let a : source H e ≡ endOf H d = source-at (t .graph .edges) (t .graph .source) (t .graph .target) e b ∙ at ∙ sym (ap (end H) x) in
         let w = next-at H (h .target .acyclic) d e j (omega arith) a in
         let y : number ≡ firstOf H d + rankOf H e = omega (arith, q .first .each d (omega arith), q .rank .each e (omega arith)) in
-        let g : number < tp .count = omega (arith, w .0) in
+        let g : number < target-paths .count = omega (arith, w .0) in
         record {
           node-low = omega arith;
           edge-low = omega arith;
@@ -156,14 +157,14 @@ module _ {s t : Schema} {sp tp : Paths} {m : Mapping} (h : Schemas s t sp tp) (k
         }
 
     -- the lift of e at c is what `first_over` finds
-    pub lift-number : IsLift s t sp m c e (headOr c (filter (isOver (sp .start) over c (getD (tp .class) number 0)) (upto (sp .count))))
+    pub lift-number : IsLift s t source-paths f c e (headOr c (filter (isOver (source-paths .start) over c (getD (target-paths .class) number 0)) (upto (source-paths .count))))
     lift-number =
-        let r : ℕ = headOr c (filter (isOver (sp .start) over c (getD (tp .class) number 0)) (upto (sp .count))) in
+        let r : ℕ = headOr c (filter (isOver (source-paths .start) over c (getD (target-paths .class) number 0)) (upto (source-paths .count))) in
         let u = h .source-paths .table .counted in
-        let i : r < sp .count = headOr-below (sp .count) c (isOver (sp .start) over c (getD (tp .class) number 0)) (omega (arith, trivial-count G (h .source .acyclic))) in
+        let i : r < source-paths .count = headOr-below (source-paths .count) (source-paths .count) c (isOver (source-paths .start) over c (getD (target-paths .class) number 0)) (omega arith) (omega (arith, trivial-count G (h .source .acyclic))) in
         let p : pathAt G r ≡ lift S T F c e = sym (
         ap (headOr (path c [])) (lifts-are (path (nodeImage F c) (e ∷ [])))
-        ∙ ap (λ (x : ℕ). headOr (path c []) (map (pathAt G) (filter (isOver (sp .start) over c x) (upto (sp .count))))) (edge-path .class)
-        ∙ ap (λ (x : Path). headOr x (map (pathAt G) (filter (isOver (sp .start) over c (getD (tp .class) number 0)) (upto (sp .count))))) (sym (trivial-at G (h .source .acyclic) c l))
-        ∙ headOr-map (pathAt G) c (filter (isOver (sp .start) over c (getD (tp .class) number 0)) (upto (sp .count)))) in
+        ∙ ap (λ (x : ℕ). headOr (path c []) (map (pathAt G) (filter (isOver (source-paths .start) over c x) (upto (source-paths .count))))) (edge-path .class)
+        ∙ ap (λ (x : Path). headOr x (map (pathAt G) (filter (isOver (source-paths .start) over c (getD (target-paths .class) number 0)) (upto (source-paths .count))))) (sym (trivial-at G (h .source .acyclic) c l))
+        ∙ headOr-map (pathAt G) c (filter (isOver (source-paths .start) over c (getD (target-paths .class) number 0)) (upto (source-paths .count)))) in
         record { below = i; path = p; number = sym (number-at G r (omega arith)) ∙ ap (numberOf G) p }

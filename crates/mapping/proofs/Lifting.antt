@@ -10,7 +10,7 @@ use borrow.Author.Tests.{eq-eqb, ne-eqb, eqb-true, eqb-false}
 use lib.ListN.{length, getD, set, length-set, length-replicate, getD-replicate}
 use lib.Seq.{getD-set-same, getD-set-other}
 use lib.Dec.{eqb}
-use Rattle.mapping.specs.Even.{liftClasses, agreesAt, metAt}
+use Rattle.mapping.specs.Even.{liftClasses, uniqueAt, hasLiftAt}
 
 -- ---- one path more
 module _ (start class over : List ℕ) (c k : ℕ) where
@@ -22,18 +22,18 @@ module _ (start class over : List ℕ) (c k : ℕ) where
 
 -- ---- the two tests of a path
 module _ (start class over lifts : List ℕ) (c k : ℕ) where
-  pub agrees-other : (getD start k 0 ≡ c → ⊥) → agreesAt start class over lifts c k ≡ true
-  agrees-other e = rw (ne-eqb (getD start k 0) c e)
+  pub unique-other : (getD start k 0 ≡ c → ⊥) → uniqueAt start class over lifts c k ≡ true
+  unique-other e = rw (ne-eqb (getD start k 0) c e)
 
-  pub agrees-is : (b : Bool) → getD start k 0 ≡ c → eqb (getD lifts (getD over k 0) 0) (getD class k 0) ≡ b → agreesAt start class over lifts c k ≡ b
-  agrees-is b e h = rw (eq-eqb (getD start k 0) c e) h
+  pub unique-is : (b : Bool) → getD start k 0 ≡ c → eqb (getD lifts (getD over k 0) 0) (getD class k 0) ≡ b → uniqueAt start class over lifts c k ≡ b
+  unique-is b e h = rw (eq-eqb (getD start k 0) c e) h
 
 module _ (start class lifts : List ℕ) (d k : ℕ) where
-  pub met-other : (getD start k 0 ≡ d → ⊥) → metAt start class lifts d k ≡ true
-  met-other e = rw (ne-eqb (getD start k 0) d e)
+  pub has-lift-other : (getD start k 0 ≡ d → ⊥) → hasLiftAt start class lifts d k ≡ true
+  has-lift-other e = rw (ne-eqb (getD start k 0) d e)
 
-  pub met-is : (b : Bool) → getD start k 0 ≡ d → eqb (getD lifts (getD class k 0) 0) 256 ≡ b → metAt start class lifts d k ≡ not b
-  met-is b e h = rw (eq-eqb (getD start k 0) d e, h)
+  pub has-lift-is : (b : Bool) → getD start k 0 ≡ d → eqb (getD lifts (getD class k 0) 0) 256 ≡ b → hasLiftAt start class lifts d k ≡ not b
+  has-lift-is b e h = rw (eq-eqb (getD start k 0) d e, h)
 
 -- ---- what stands over a class
 -- path `number`, one of the first k, starts at c, lies over x and has class v

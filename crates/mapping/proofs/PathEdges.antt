@@ -107,5 +107,5 @@ module _ (G : Graph) (acyclic : hasLoop G ≡ false) where
         rw (L i h, P i h) (ap (λ (l : List ℕ). l ++ (lastOf G i ∷ [])) (edges-back n (parentOf G i) k m) ∙ sym a)
 
   -- a table's edges of a path are the path's
-  pub edges-are : {p : Paths} → IsTable G p → (i : ℕ) → i < pathCount G → pathEdges p i ≡ pathAt G i .edges
-  edges-are {p} T i h = edges-back (p .last) (p .parent) (λ k l. T .columns .last .each k (rw (T .counted) l)) (λ k l. T .columns .parent .each k (rw (T .counted) l)) (getD (p .length) i 0) i h (sym (T .columns .length .each i (rw (T .counted) h)))
+  pub edges-are : {paths : Paths} → IsTable G paths → (i : ℕ) → i < pathCount G → pathEdges paths i ≡ pathAt G i .edges
+  edges-are {paths} T i h = edges-back (paths .last) (paths .parent) (λ k l. T .columns .last .each k (rw (T .counted) l)) (λ k l. T .columns .parent .each k (rw (T .counted) l)) (getD (paths .length) i 0) i h (sym (T .columns .length .each i (rw (T .counted) h)))

@@ -44,37 +44,37 @@ module _ (s : Schema) where
       (record { short = h .limits .left .each q l; path = v .0 }, record { short = h .limits .right .each q l; path = v .1 })
 
   -- the number of a path
-  pub number-below : Sound s → (p : Path) → isPath (graphOf (s .graph)) p ≡ true → (numberOf (graphOf (s .graph)) p < pathCount (graphOf (s .graph))) × (pathAt (graphOf (s .graph)) (numberOf (graphOf (s .graph)) p) ≡ p)
+  number-below : Sound s → (p : Path) → isPath (graphOf (s .graph)) p ≡ true → (numberOf (graphOf (s .graph)) p < pathCount (graphOf (s .graph))) × (pathAt (graphOf (s .graph)) (numberOf (graphOf (s .graph)) p) ≡ p)
   number-below h p e =
       let m = allPaths-each (schemaOf s) (formed h) p .1 (path-iff (schemaOf s) (h .well-formed) (p .start) (p .edges) .0 e) in
       (number-in (graphOf (s .graph)) m, number-path (graphOf (s .graph)) m)
 
 -- how a side's number is found
-pub record Side (s : Schema) (sp : Paths) (p : declared.Path) : Type 0 where
+pub record Side (s : Schema) (source-paths : Paths) (p : declared.Path) : Type 0 where
   pub short : p .length ≤ 15
-  pub within : WalkIn (sp .first) (sp .rank) (p .start) (pathOf p .edges)
-  pub low : walkFrom (sp .first) (sp .rank) (p .start) (pathOf p .edges) < 256
-  pub is : walkFrom (sp .first) (sp .rank) (p .start) (pathOf p .edges) ≡ numberOf (graphOf (s .graph)) (pathOf p)
+  pub within : WalkIn (source-paths .first) (source-paths .rank) (p .start) (pathOf p .edges)
+  pub low : walkFrom (source-paths .first) (source-paths .rank) (p .start) (pathOf p .edges) < 256
+  pub is : walkFrom (source-paths .first) (source-paths .rank) (p .start) (pathOf p .edges) ≡ numberOf (graphOf (s .graph)) (pathOf p)
 
-pub side : {s : Schema} {sp : Paths} {p : declared.Path} → Sound s → IsTable (graphOf (s .graph)) sp → SoundPath (s .graph) p → Side s sp p
-side {s} {sp} h t w = let n = path-numbered s sp h t w in record { short = w .short; within = n .within; low = omega (arith, n .below, t .counted, t .few); is = n .number }
+pub side : {s : Schema} {source-paths : Paths} {p : declared.Path} → Sound s → IsTable (graphOf (s .graph)) source-paths → SoundPath (s .graph) p → Side s source-paths p
+side {s} {source-paths} h t w = let n = path-numbered s source-paths h t w in record { short = w .short; within = n .within; low = omega (arith, n .below, t .counted, t .few); is = n .number }
 
-module _ {s t : Schema} {sp tp : Paths} {m : Mapping} (h : Imageable s t sp tp m) {path : List ℕ} (f : Filled 256 (imageNumber (schemaOf s) (schemaOf t) (mappingOf s m)) (sp .count) path) where
-  pub image-class : (i : ℕ) → i < sp .count → classOf (schemaOf t) (pathImage (mappingOf s m) (pathAt (graphOf (s .graph)) i)) ≡ sideClass path (tp .class) i
+module _ {s t : Schema} {source-paths target-paths : Paths} {f : Mapping} (h : Imageable s t source-paths target-paths f) {path : List ℕ} (filled : Filled 256 (imageNumber (schemaOf s) (schemaOf t) (mappingOf s f)) (source-paths .count) path) where
+  pub image-class : (i : ℕ) → i < source-paths .count → classOf (schemaOf t) (pathImage (mappingOf s f) (pathAt (graphOf (s .graph)) i)) ≡ sideClass path (target-paths .class) i
   image-class i l =
       let a = h .schemas .source-paths .table .counted in
       let b = h .schemas .target-paths .table .counted in
       let k = image-below (formed (h .schemas .source)) (formed (h .schemas .target)) (images h) i (omega arith) in
-      sym (h .schemas .target-paths .class .each (imageNumber (schemaOf s) (schemaOf t) (mappingOf s m) i) (omega arith)) ∙ ap (λ (x : ℕ). getD (tp .class) x 0) (sym (f .each i l))
+      sym (h .schemas .target-paths .class .each (imageNumber (schemaOf s) (schemaOf t) (mappingOf s f) i) (omega arith)) ∙ ap (λ (x : ℕ). getD (target-paths .class) x 0) (sym (filled .each i l))
 
-  side-class : (p : Path) → isPath (graphOf (s .graph)) p ≡ true → classOf (schemaOf t) (pathImage (mappingOf s m) p) ≡ sideClass path (tp .class) (numberOf (graphOf (s .graph)) p)
+  side-class : (p : Path) → isPath (graphOf (s .graph)) p ≡ true → classOf (schemaOf t) (pathImage (mappingOf s f) p) ≡ sideClass path (target-paths .class) (numberOf (graphOf (s .graph)) p)
   side-class p e =
       let n = number-below s (h .schemas .source) p e in
-      ap (λ (x : Path). classOf (schemaOf t) (pathImage (mappingOf s m) x)) (sym (n .1)) ∙ image-class (numberOf (graphOf (s .graph)) p) (let a = h .schemas .source-paths .table .counted in let b = n .0 in omega arith)
+      ap (λ (x : Path). classOf (schemaOf t) (pathImage (mappingOf s f) x)) (sym (n .1)) ∙ image-class (numberOf (graphOf (s .graph)) p) (let a = h .schemas .source-paths .table .counted in let b = n .0 in omega arith)
 
   abbrev agrees : Equation → Bool
-  agrees x = eqb (sideClass path (tp .class) (numberOf (graphOf (s .graph)) (x .left))) (sideClass path (tp .class) (numberOf (graphOf (s .graph)) (x .right)))
+  agrees x = eqb (sideClass path (target-paths .class) (numberOf (graphOf (s .graph)) (x .left))) (sideClass path (target-paths .class) (numberOf (graphOf (s .graph)) (x .right)))
 
-  pub keeps-by : keepsEquations (schemaOf s) (schemaOf t) (mappingOf s m) ≡ all agrees (schemaOf s .equations)
-  keeps-by = all-same (λ q. equal (schemaOf t) (pathImage (mappingOf s m) (q .left)) (pathImage (mappingOf s m) (q .right))) agrees (s .equations) (equation s)
+  pub keeps-by : keepsEquations (schemaOf s) (schemaOf t) (mappingOf s f) ≡ all agrees (schemaOf s .equations)
+  keeps-by = all-same (λ q. equal (schemaOf t) (pathImage (mappingOf s f) (q .left)) (pathImage (mappingOf s f) (q .right))) agrees (s .equations) (equation s)
       (λ q l. let u = sides s (h .schemas .source) q l in rw (side-class (equation s q .left) (u .0 .path), side-class (equation s q .right) (u .1 .path)))

@@ -17,15 +17,15 @@ use Rattle.mapping.specs.declared.Mapping.{Mapping}
 use Rattle.mapping.specs.Decoded.{imageOf, noImage, mappingOf}
 
 -- ---- images
-module _ (s : Schema) (m : Mapping) where
-  pub node-at : (c : ℕ) → c < s .graph .nodes → nodeImage (mappingOf s m) c ≡ getD (m .node) c 0
-  node-at c l = tabulate-getD (s .graph .nodes) (λ i. getD (m .node) i 0) 0 c l
+module _ (s : Schema) (f : Mapping) where
+  pub node-at : (c : ℕ) → c < s .graph .nodes → nodeImage (mappingOf s f) c ≡ getD (f .node) c 0
+  node-at c l = tabulate-getD (s .graph .nodes) (λ i. getD (f .node) i 0) 0 c l
 
-  pub edge-at : (e : ℕ) → e < s .graph .edges → edgeImage (mappingOf s m) e ≡ imageOf (getD (m .edge) e noImage)
-  edge-at e l = tabulate-getD (s .graph .edges) (λ i. imageOf (getD (m .edge) i noImage)) _ e l
+  pub edge-at : (e : ℕ) → e < s .graph .edges → edgeImage (mappingOf s f) e ≡ imageOf (getD (f .edge) e noImage)
+  edge-at e l = tabulate-getD (s .graph .edges) (λ i. imageOf (getD (f .edge) i noImage)) _ e l
 
-  pub attribute-at : (a : ℕ) → a < s .attributes → attributeImage (mappingOf s m) a ≡ getD (m .attribute) a 0
-  attribute-at a l = tabulate-getD (s .attributes) (λ i. getD (m .attribute) i 0) 0 a l
+  pub attribute-at : (a : ℕ) → a < s .attributes → attributeImage (mappingOf s f) a ≡ getD (f .attribute) a 0
+  attribute-at a l = tabulate-getD (s .attributes) (λ i. getD (f .attribute) i 0) 0 a l
 
 -- ---- attributes of a schema
 module _ (s : Schema) where

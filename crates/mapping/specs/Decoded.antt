@@ -33,11 +33,11 @@ abbrev pub firstOf : ℕ → List ℕ → List ℕ
 firstOf n l = tabulate n (λ i. getD l i 0)
 
 abbrev pub mappingOf : Schema → Mapping → meaning.Mapping
-mappingOf s m = record { nodes = firstOf (s .graph .nodes) (m .node); edges = imagesOf (s .graph .edges) (m .edge); attributes = firstOf (s .attributes) (m .attribute) }
+mappingOf s f = record { nodes = firstOf (s .graph .nodes) (f .node); edges = imagesOf (s .graph .edges) (f .edge); attributes = firstOf (s .attributes) (f .attribute) }
 
 -- the number with which the sheet is sent back, or what it says
 abbrev pub judgedMapping : Schema → Mapping → Judged meaning.Mapping
-judgedMapping s m = cond (eqb (m .fault) 0) (sound (mappingOf s m)) (faulty (m .fault))
+judgedMapping s f = cond (eqb (f .fault) 0) (sound (mappingOf s f)) (faulty (f .fault))
 
 abbrev pub emptyImage : Image
 emptyImage = record { length = 0; edges = replicate 16 0 }
@@ -47,9 +47,9 @@ emptyMapping number = record { fault = number; node = replicate 16 0; edge = rep
 
 -- ---- what the decoders promise
 
-pub record ImageTaken (s : List ℕ) (at : ℕ) (r : ImageRead) : Type 0 where
-  pub says : readOf (r .cut) (imageOf (r .image)) (r .next) ≡ readEdges s at
-  pub inside : r .next ≤ 8 * length s
+pub record ImageTaken (sheet : List ℕ) (at : ℕ) (r : ImageRead) : Type 0 where
+  pub says : readOf (r .cut) (imageOf (r .image)) (r .next) ≡ readEdges sheet at
+  pub inside : r .next ≤ 8 * length sheet
   pub near : r .next ≤ at + 79
   pub short : r .image .length ≤ 15
 
@@ -57,13 +57,13 @@ pub record ImageTaken (s : List ℕ) (at : ℕ) (r : ImageRead) : Type 0 where
 pub record Short (n : ℕ) (l : List Image) : Type 0 where
   pub each : (i : ℕ) → i < n → getD l i noImage .length ≤ 15
 
-pub record ImagesTaken (s : List ℕ) (at n : ℕ) (r : ImagesRead) : Type 0 where
-  pub says : readOf (r .cut) (imagesOf n (r .edge)) (r .next) ≡ times n readEdges s at
-  pub inside : r .next ≤ 8 * length s
+pub record ImagesTaken (sheet : List ℕ) (at n : ℕ) (r : ImagesRead) : Type 0 where
+  pub says : readOf (r .cut) (imagesOf n (r .edge)) (r .next) ≡ times n readEdges sheet at
+  pub inside : r .next ≤ 8 * length sheet
   pub near : r .next ≤ at + 79 * n
   pub short : (r .cut ≡ false → Short n (r .edge))
 
 -- a sheet read, before any test of its sense
-pub record Decoded (s : Schema) (m : Mapping) (J : Judged meaning.Mapping) : Type 0 where
-  pub says : judgedMapping s m ≡ J
-  pub short : Short (s .graph .edges) (m .edge)
+pub record Decoded (s : Schema) (f : Mapping) (J : Judged meaning.Mapping) : Type 0 where
+  pub says : judgedMapping s f ≡ J
+  pub short : Short (s .graph .edges) (f .edge)

@@ -18,17 +18,21 @@ liftClasses start class over c (suc k) =
     cond (eqb (getD start k 0) c) (set (liftClasses start class over c k) (getD over k 0) (getD class k 0)) (liftClasses start class over c k)
 
 -- path k, where it starts at c, has the class over its image's class
-abbrev pub agreesAt : List ℕ → List ℕ → List ℕ → List ℕ → ℕ → ℕ → Bool
-agreesAt start class over lifts c k = cond (eqb (getD start k 0) c) (eqb (getD lifts (getD over k 0) 0) (getD class k 0)) true
+abbrev pub uniqueAt : List ℕ → List ℕ → List ℕ → List ℕ → ℕ → ℕ → Bool
+uniqueAt start class over lifts c k = cond (eqb (getD start k 0) c) (eqb (getD lifts (getD over k 0) 0) (getD class k 0)) true
 
 -- there is a class over path k of T, where that starts at d
-abbrev pub metAt : List ℕ → List ℕ → List ℕ → ℕ → ℕ → Bool
-metAt start class lifts d k = cond (eqb (getD start k 0) d) (not (eqb (getD lifts (getD class k 0) 0) 256)) true
+abbrev pub hasLiftAt : List ℕ → List ℕ → List ℕ → ℕ → ℕ → Bool
+hasLiftAt start class lifts d k = cond (eqb (getD start k 0) d) (not (eqb (getD lifts (getD class k 0) 0) 256)) true
+
+-- each path of T from d has one lift at c
+abbrev pub eachHasOneLift : Paths → Paths → List ℕ → ℕ → ℕ → Bool
+eachHasOneLift source-paths target-paths over c d =
+    all (uniqueAt (source-paths .start) (source-paths .class) over (liftClasses (source-paths .start) (source-paths .class) over c (source-paths .count)) c) (upto (source-paths .count)) &&
+    all (hasLiftAt (target-paths .start) (target-paths .class) (liftClasses (source-paths .start) (source-paths .class) over c (source-paths .count)) d) (upto (target-paths .count))
 
 abbrev pub evenPathsAt : Paths → Paths → List ℕ → List ℕ → ℕ → Bool
-evenPathsAt sp tp over node c =
-    all (agreesAt (sp .start) (sp .class) over (liftClasses (sp .start) (sp .class) over c (sp .count)) c) (upto (sp .count)) &&
-    all (metAt (tp .start) (tp .class) (liftClasses (sp .start) (sp .class) over c (sp .count)) (getD node c 0)) (upto (tp .count))
+evenPathsAt source-paths target-paths over node c = eachHasOneLift source-paths target-paths over c (getD node c 0)
 
 -- ---- attributes
 
@@ -38,7 +42,7 @@ isOver home image c b a = eqb (getD home a 0) c && eqb (getD image a 0) b
 
 -- one of the first n attributes does, where b sits at d
 abbrev pub evenColumnAt : List ℕ → List ℕ → ℕ → List ℕ → ℕ → ℕ → ℕ → Bool
-evenColumnAt home image n there c d b = cond (eqb (getD there b 0) d) (eqb (length (filter (isOver home image c b) (upto n))) 1) true
+evenColumnAt home image n target-home c d b = cond (eqb (getD target-home b 0) d) (eqb (length (filter (isOver home image c b) (upto n))) 1) true
 
 abbrev pub evenColumnsAt : Schema → Schema → Mapping → ℕ → Bool
-evenColumnsAt s t m c = all (evenColumnAt (s .node) (m .attribute) (s .attributes) (t .node) c (getD (m .node) c 0)) (upto (t .attributes))
+evenColumnsAt s t f c = all (evenColumnAt (s .node) (f .attribute) (s .attributes) (t .node) c (getD (f .node) c 0)) (upto (t .attributes))

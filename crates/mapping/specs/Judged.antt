@@ -20,21 +20,21 @@ use Rattle.mapping.specs.declared.Mapping.{Mapping}
 use Rattle.mapping.specs.Decoded.{mappingOf, judgedMapping, Short}
 
 -- the node images are nodes of T
-pub record NodesIn (s t : Schema) (m : Mapping) : Type 0 where
-  pub each : (c : ℕ) → c < s .graph .nodes → getD (m .node) c 0 < t .graph .nodes
+pub record NodesIn (s t : Schema) (f : Mapping) : Type 0 where
+  pub each : (c : ℕ) → c < s .graph .nodes → getD (f .node) c 0 < t .graph .nodes
 
 -- two schemas with their tables of paths
-pub record Schemas (s t : Schema) (sp tp : Paths) : Type 0 where
+pub record Schemas (s t : Schema) («source_paths» «target_paths» : Paths) : Type 0 where
   pub source : schemas.Sound s
   pub target : schemas.Sound t
-  pub source-paths : IsPaths (schemaOf s) sp
-  pub target-paths : IsPaths (schemaOf t) tp
+  pub source-paths : IsPaths (schemaOf s) «source_paths»
+  pub target-paths : IsPaths (schemaOf t) «target_paths»
 
 -- and a mapping between them that passed test 7
-pub record Imageable (s t : Schema) (sp tp : Paths) (m : Mapping) : Type 0 where
-  pub schemas : Schemas s t sp tp
-  pub short : Short (s .graph .edges) (m .edge)
-  pub fits : imagesFit (schemaOf s) (schemaOf t) (mappingOf s m) ≡ true
+pub record Imageable (s t : Schema) (source-paths target-paths : Paths) (f : Mapping) : Type 0 where
+  pub schemas : Schemas s t source-paths target-paths
+  pub short : Short (s .graph .edges) (f .edge)
+  pub fits : imagesFit (schemaOf s) (schemaOf t) (mappingOf s f) ≡ true
 
 -- the image of path i of S, as its number among the paths of T
 abbrev pub imageNumber : meaning.Schema → meaning.Schema → formats.Mapping → ℕ → ℕ
@@ -54,12 +54,12 @@ testMapping S T F = do
   sound F
 
 -- what the code that works on a judged mapping relies on
-pub record Sound (s t : Schema) (sp : Paths) (m : Mapping) : Type 0 where
-  pub short : Short (s .graph .edges) (m .edge)
-  pub fits : imagesFit (schemaOf s) (schemaOf t) (mappingOf s m) ≡ true
-  pub keeps : keepsEquations (schemaOf s) (schemaOf t) (mappingOf s m) ≡ true
-  pub images : Filled 256 (imageNumber (schemaOf s) (schemaOf t) (mappingOf s m)) (sp .count) (m .path)
+pub record Sound (s t : Schema) (source-paths : Paths) (f : Mapping) : Type 0 where
+  pub short : Short (s .graph .edges) (f .edge)
+  pub fits : imagesFit (schemaOf s) (schemaOf t) (mappingOf s f) ≡ true
+  pub keeps : keepsEquations (schemaOf s) (schemaOf t) (mappingOf s f) ≡ true
+  pub images : Filled 256 (imageNumber (schemaOf s) (schemaOf t) (mappingOf s f)) (source-paths .count) (f .path)
 
-pub record Says (s t : Schema) (sp : Paths) (m : Mapping) (J : Judged formats.Mapping) : Type 0 where
-  pub says : judgedMapping s m ≡ J
-  pub sound : (m .fault ≡ 0 → Sound s t sp m)
+pub record Says (s t : Schema) (source-paths : Paths) (f : Mapping) (J : Judged formats.Mapping) : Type 0 where
+  pub says : judgedMapping s f ≡ J
+  pub sound : (f .fault ≡ 0 → Sound s t source-paths f)

@@ -14,14 +14,14 @@ use Rattle.mapping.specs.declared.Mapping.{Mapping}
 use Rattle.mapping.specs.Decoded.{mappingOf}
 
 -- r is the number of the lift of e at c
-pub record IsLift (s t : Schema) (sp : Paths) (m : Mapping) (c e r : ℕ) : Type 0 where
-  pub below : r < sp .count
-  pub path : pathAt (graphOf (s .graph)) r ≡ lift (schemaOf s) (schemaOf t) (mappingOf s m) c e
-  pub number : r ≡ numberOf (graphOf (s .graph)) (lift (schemaOf s) (schemaOf t) (mappingOf s m) c e)
+pub record IsLift (s t : Schema) (source-paths : Paths) (f : Mapping) (c e r : ℕ) : Type 0 where
+  pub below : r < source-paths .count
+  pub path : pathAt (graphOf (s .graph)) r ≡ lift (schemaOf s) (schemaOf t) (mappingOf s f) c e
+  pub number : r ≡ numberOf (graphOf (s .graph)) (lift (schemaOf s) (schemaOf t) (mappingOf s f) c e)
 
 -- of edge e and node c at 16 * e + c, in the first n places
-pub record EdgeLifts (s t : Schema) (sp : Paths) (m : Mapping) (n : ℕ) (l : List ℕ) : Type 0 where
-  pub each : (k : ℕ) → k < n → k % 16 < s .graph .nodes → getD (t .graph .source) (k / 16) 0 ≡ getD (m .node) (k % 16) 0 → IsLift s t sp m (k % 16) (k / 16) (getD l k 0)
+pub record EdgeLifts (s t : Schema) (source-paths : Paths) (f : Mapping) (n : ℕ) (l : List ℕ) : Type 0 where
+  pub each : (k : ℕ) → k < n → k % 16 < s .graph .nodes → getD (t .graph .source) (k / 16) 0 ≡ getD (f .node) (k % 16) 0 → IsLift s t source-paths f (k % 16) (k / 16) (getD l k 0)
 
 -- the rows that the nodes below n give to the table at d
 abbrev pub joinedBefore : List ℕ → List ℕ → ℕ → ℕ → ℕ

@@ -13,8 +13,8 @@ edgesBack last parent i zero = []
 edgesBack last parent i (suc n) = edgesBack last parent (getD parent i 0) n ++ (getD last i 0 ∷ [])
 
 abbrev pub pathEdges : Paths → ℕ → List ℕ
-pathEdges p i = edgesBack (p .last) (p .parent) i (getD (p .length) i 0)
+pathEdges paths i = edgesBack (paths .last) (paths .parent) i (getD (paths .length) i 0)
 
-pub record EdgesTaken (p : Paths) (i : ℕ) (r : Image) : Type 0 where
-  pub says : imageOf r ≡ pathEdges p i
+pub record EdgesTaken (paths : Paths) (i : ℕ) (r : Image) : Type 0 where
+  pub says : imageOf r ≡ pathEdges paths i
   pub short : r .length ≤ 15

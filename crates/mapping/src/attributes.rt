@@ -28,11 +28,11 @@ fn count_to(image: &[u8; Mapping::ATTRIBUTES], n: usize, b: u8) -> usize
 }
 
 // Refusal 13 (unpaired).
-pub fn is_bijective(s: Schema, t: Schema, m: Mapping) -> bool
+pub fn is_bijective(s: Schema, t: Schema, f: Mapping) -> bool
     requires { ⌜ (s .attributes ≤ 16) × (t .attributes ≤ 16) ⌝ }
-    ensures { λ r. ⌜ r ≡ isBijective (schemaOf t) (mappingOf s m) ⌝ }
+    ensures { λ r. ⌜ r ≡ isBijective (schemaOf t) (mappingOf s f) ⌝ }
 {
-    let image = m.attribute;
+    let image = f.attribute;
     let n = s.attributes;
     let count = t.attributes;
     let mut b = 0;

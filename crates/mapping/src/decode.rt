@@ -6,7 +6,6 @@ use bits::reader::lacks_at;
 use schema::Schema;
 use schema::decode::column;
 use schema::decode::small;
-ghost use mathlib.Core.Path.{_≡_};
 ghost use Prim.Native.Nat.{_*_, _≤_};
 ghost use Rattle.meaning.specs.Sheet.{onSheet};
 ghost use Rattle.meaning.specs.Formats.{readMapping};
@@ -20,27 +19,27 @@ struct ImageRead {
     image: Image,
 }
 
-fn read_image(s: &[u8], at: usize) -> ImageRead
-    requires { ⌜ Near (now s) at 79 ⌝ }
-    ensures { λ r. ⌜ ImageTaken (now (s .entry)) at r ⌝ }
+fn read_image(sheet: &[u8], at: usize) -> ImageRead
+    requires { ⌜ Near (now sheet) at 79 ⌝ }
+    ensures { λ r. ⌜ ImageTaken (now (sheet .entry)) at r ⌝ }
 {
     let none = Image::empty();
-    if lacks_at(s, at, 4) {
+    if lacks_at(sheet, at, 4) {
         return ImageRead {
             cut: true,
             next: at,
             image: none,
         };
     }
-    let n = small(s, at, 4) as usize;
-    if lacks_at(s, at + 4, 5 * n) {
+    let n = small(sheet, at, 4) as usize;
+    if lacks_at(sheet, at + 4, 5 * n) {
         return ImageRead {
             cut: true,
             next: at,
             image: none,
         };
     }
-    let edges = column(s, at + 4, 5, 5, n);
+    let edges = column(sheet, at + 4, 5, 5, n);
     let image = Image {
         length: n,
         edges: edges,
@@ -59,16 +58,16 @@ struct ImagesRead {
     edge: [Image; Mapping::EDGES],
 }
 
-fn read_images(s: &[u8], at: usize, n: usize) -> ImagesRead
-    requires { ⌜ Near (now s) at (79 * n) × (n ≤ 32) ⌝ }
-    ensures { λ r. ⌜ ImagesTaken (now (s .entry)) at n r ⌝ }
+fn read_images(sheet: &[u8], at: usize, n: usize) -> ImagesRead
+    requires { ⌜ Near (now sheet) at (79 * n) × (n ≤ 32) ⌝ }
+    ensures { λ r. ⌜ ImagesTaken (now (sheet .entry)) at n r ⌝ }
 {
     let none = Image::empty();
     let mut edge = [none; Mapping::EDGES];
     let mut i = 0;
     let mut p = at;
     while i < n {
-        let read = read_image(s, p);
+        let read = read_image(sheet, p);
         if read.cut {
             return ImagesRead {
                 cut: true,
@@ -89,28 +88,28 @@ fn read_images(s: &[u8], at: usize, n: usize) -> ImagesRead
 }
 
 // What a mapping sheet says, or the number with which it is sent back before any test of its sense.
-pub fn decode_mapping(t: Schema, s: &[u8]) -> Mapping
-    requires { ⌜ Limits t ⌝ }
-    ensures { λ r. ⌜ Decoded t r (onSheet (readMapping (schemaOf t)) (now (s .entry))) ⌝ }
+pub fn decode_mapping(s: Schema, sheet: &[u8]) -> Mapping
+    requires { ⌜ Limits s ⌝ }
+    ensures { λ r. ⌜ Decoded s r (onSheet (readMapping (schemaOf s)) (now (sheet .entry))) ⌝ }
 {
-    let nodes = t.graph.nodes;
-    let attributes = t.attributes;
+    let nodes = s.graph.nodes;
+    let attributes = s.attributes;
     let first = 4 * nodes;
-    if lacks_at(s, 0, first) {
+    if lacks_at(sheet, 0, first) {
         return Mapping::faulty(1);
     }
-    let images = read_images(s, first, t.graph.edges);
+    let images = read_images(sheet, first, s.graph.edges);
     if images.cut {
         return Mapping::faulty(1);
     }
     let middle = images.next;
     let last = 4 * attributes;
-    if lacks_at(s, middle, last) {
+    if lacks_at(sheet, middle, last) {
         return Mapping::faulty(1);
     }
-    if ends_after(s, middle, last) {
-        let node = column(s, 0, 4, 4, nodes);
-        let attribute = column(s, middle, 4, 4, attributes);
+    if ends_after(sheet, middle, last) {
+        let node = column(sheet, 0, 4, 4, nodes);
+        let attribute = column(sheet, middle, 4, 4, attributes);
         let edge = images.edge;
         return Mapping {
             fault: 0,

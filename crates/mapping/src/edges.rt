@@ -1,24 +1,25 @@
 // The edges of a path, by its number in a table of paths.
 use crate::Image;
 use crate::images::index;
+use schema::Path;
 use schema::Paths;
 ghost use Prim.Native.Nat.{_≤_, _<_};
 ghost use lib.ListN.{getD};
 ghost use Rattle.mapping.specs.PathEdges.{EdgesTaken};
 
 // The edges of path i, from the last back to the first.
-pub fn path_edges(p: Paths, i: usize) -> Image
-    requires { ⌜ (i < 256) × (getD (p .length) i 0 ≤ 15) ⌝ }
-    ensures { λ r. ⌜ EdgesTaken p i r ⌝ }
+pub fn path_edges(paths: Paths, i: usize) -> Image
+    requires { ⌜ (i < 256) × (getD (paths .length) i 0 ≤ 15) ⌝ }
+    ensures { λ r. ⌜ EdgesTaken paths i r ⌝ }
 {
-    let mut edges = [0u8; 16];
-    let n = index(p.length[i]);
+    let mut edges = [0u8; Path::EDGES];
+    let n = index(paths.length[i]);
     let mut k = n;
     let mut x = i;
     while 0 < k {
         k -= 1;
-        edges[k] = p.last[x];
-        x = index(p.parent[x]);
+        edges[k] = paths.last[x];
+        x = index(paths.parent[x]);
     }
     Image {
         length: n,

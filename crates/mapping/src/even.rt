@@ -5,20 +5,21 @@ use crate::images::index;
 use schema::Paths;
 use schema::Schema;
 ghost use mathlib.Core.Path.{_≡_};
-ghost use mathlib.Core.Bool.{_&&_};
 ghost use Prim.Native.Nat.{_≤_, _<_};
-ghost use lib.ListN.{getD, length};
-ghost use lib.Dec.{eqb};
+ghost use lib.ListN.{length};
 ghost use Rattle.meaning.specs.Lists.{upto, filter, all};
 ghost use Rattle.meaning.specs.Evenness.{even};
 ghost use Rattle.schema.specs.Decoded.{schemaOf};
 ghost use Rattle.schema.specs.Table.{Filled};
 ghost use Rattle.mapping.specs.Decoded.{mappingOf};
 ghost use Rattle.mapping.specs.Judged.{Schemas, Sound, sideClass};
-ghost use Rattle.mapping.specs.Even.{liftClasses, agreesAt, metAt, evenPathsAt, isOver, evenColumnAt, evenColumnsAt};
+ghost use Rattle.mapping.specs.Even.{liftClasses, uniqueAt, hasLiftAt, eachHasOneLift, evenPathsAt, isOver, evenColumnAt, evenColumnsAt};
 
-// A byte as a number that can also say 256.
-fn word(x: u8) -> u16
+// What stands in place of a class where there is none: classes are below it.
+const NO_LIFT: u16 = 256;
+
+// A class as a number that can also be NO_LIFT.
+fn as_u16(x: u8) -> u16
     ensures { λ r. ⌜ (r ≡ x) × (r < 256) ⌝ }
 {
     x as u16
@@ -41,7 +42,7 @@ pub fn image_classes<'a>(
     over
 }
 
-// For each class of T the class of a path from c over it; 256 where there is none.
+// For each class of T the class of a path from c over it; NO_LIFT where there is none.
 fn lift_classes<'a>(
     start: &'a [u8; Schema::PATHS],
     class: &'a [u8; Schema::PATHS],
@@ -52,21 +53,21 @@ fn lift_classes<'a>(
     requires { ⌜ count ≤ 256 ⌝ }
     ensures { λ r. ⌜ r ≡ liftClasses (now (start .entry)) (now (class .entry)) (now (over .entry)) c count ⌝ }
 {
-    let mut lifts = [256u16; Schema::PATHS];
+    let mut lifts = [NO_LIFT; Schema::PATHS];
     let mut i = 0;
     while i < count {
         let k = i;
         i += 1;
         if start[k] == c {
             let x = index(over[k]);
-            lifts[x] = word(class[k]);
+            lifts[x] = as_u16(class[k]);
         }
     }
     lifts
 }
 
-// Whether each path from c has that class.
-fn agree<'a>(
+// Whether each path from c has the class that lifts has over the class of its image.
+fn lifts_unique<'a>(
     start: &'a [u8; Schema::PATHS],
     class: &'a [u8; Schema::PATHS],
     over: &'a [u8; Mapping::PATHS],
@@ -75,7 +76,7 @@ fn agree<'a>(
     c: u8,
 ) -> bool
     requires { ⌜ count ≤ 256 ⌝ }
-    ensures { λ r. ⌜ r ≡ all (agreesAt (now (start .entry)) (now (class .entry)) (now (over .entry)) (now (lifts .entry)) c) (upto count) ⌝ }
+    ensures { λ r. ⌜ r ≡ all (uniqueAt (now (start .entry)) (now (class .entry)) (now (over .entry)) (now (lifts .entry)) c) (upto count) ⌝ }
 {
     let mut i = 0;
     while i < count {
@@ -83,7 +84,7 @@ fn agree<'a>(
         i += 1;
         if start[k] == c {
             let x = index(over[k]);
-            if lifts[x] != word(class[k]) {
+            if lifts[x] != as_u16(class[k]) {
                 return false;
             }
         }
@@ -91,8 +92,8 @@ fn agree<'a>(
     true
 }
 
-// Whether each path of T from d has a path over it.
-fn met<'a>(
+// Whether lifts has a class over each path of T from d.
+fn each_has_lift<'a>(
     start: &'a [u8; Schema::PATHS],
     class: &'a [u8; Schema::PATHS],
     lifts: &'a [u16; Schema::PATHS],
@@ -100,7 +101,7 @@ fn met<'a>(
     d: u8,
 ) -> bool
     requires { ⌜ count ≤ 256 ⌝ }
-    ensures { λ r. ⌜ r ≡ all (metAt (now (start .entry)) (now (class .entry)) (now (lifts .entry)) d) (upto count) ⌝ }
+    ensures { λ r. ⌜ r ≡ all (hasLiftAt (now (start .entry)) (now (class .entry)) (now (lifts .entry)) d) (upto count) ⌝ }
 {
     let mut j = 0;
     while j < count {
@@ -108,7 +109,7 @@ fn met<'a>(
         j += 1;
         if start[k] == d {
             let x = index(class[k]);
-            if lifts[x] == 256 {
+            if lifts[x] == NO_LIFT {
                 return false;
             }
         }
@@ -116,27 +117,58 @@ fn met<'a>(
     true
 }
 
-// Whether each path of T from the image of a node has one lift at that node, for each of the nodes; over has the class of the image of each path.
+// Whether each path of T from d has one lift at c; over has the class of the image of each path.
+fn each_has_one_lift(
+    source_paths: Paths,
+    target_paths: Paths,
+    over: &[u8; Mapping::PATHS],
+    c: u8,
+    d: u8,
+) -> bool
+    requires { ⌜ («source_paths» .count ≤ 256) × («target_paths» .count ≤ 256) ⌝ }
+    ensures { λ r. ⌜ r ≡ eachHasOneLift «source_paths» «target_paths» (now (over .entry)) c d ⌝ }
+{
+    let lifts = lift_classes(
+        &source_paths.start,
+        &source_paths.class,
+        over,
+        source_paths.count,
+        c,
+    );
+    if lifts_unique(
+        &source_paths.start,
+        &source_paths.class,
+        over,
+        &lifts,
+        source_paths.count,
+        c,
+    ) {
+        return each_has_lift(
+            &target_paths.start,
+            &target_paths.class,
+            &lifts,
+            target_paths.count,
+            d,
+        );
+    }
+    false
+}
+
+// Whether each path of T from the image of a node has one lift at that node, for each of the nodes.
 fn paths_even<'a>(
     nodes: usize,
-    sp: Paths,
-    tp: Paths,
+    source_paths: Paths,
+    target_paths: Paths,
     over: &'a [u8; Mapping::PATHS],
     node: &'a [u8; Mapping::NODES],
 ) -> bool
-    requires { ⌜ (nodes ≤ 16) × (sp .count ≤ 256) × (tp .count ≤ 256) ⌝ }
-    ensures { λ r. ⌜ r ≡ all (evenPathsAt sp tp (now (over .entry)) (now (node .entry))) (upto nodes) ⌝ }
+    requires { ⌜ (nodes ≤ 16) × («source_paths» .count ≤ 256) × («target_paths» .count ≤ 256) ⌝ }
+    ensures { λ r. ⌜ r ≡ all (evenPathsAt «source_paths» «target_paths» (now (over .entry)) (now (node .entry))) (upto nodes) ⌝ }
 {
-    let mut i = 0;
-    while i < nodes {
-        let c = i as u8;
-        let lifts = lift_classes(&sp.start, &sp.class, over, sp.count, c);
-        if agree(&sp.start, &sp.class, over, &lifts, sp.count, c) {
-            if met(&tp.start, &tp.class, &lifts, tp.count, node[i]) {
-                i += 1;
-            } else {
-                return false;
-            }
+    let mut c = 0;
+    while c < nodes {
+        if each_has_one_lift(source_paths, target_paths, over, c as u8, node[c]) {
+            c += 1;
         } else {
             return false;
         }
@@ -174,19 +206,19 @@ fn columns_even<'a>(
     home: &'a [u8; Schema::ATTRIBUTES],
     image: &'a [u8; Mapping::ATTRIBUTES],
     n: usize,
-    there: &'a [u8; Schema::ATTRIBUTES],
+    target_home: &'a [u8; Schema::ATTRIBUTES],
     count: usize,
     c: u8,
     d: u8,
 ) -> bool
     requires { ⌜ (n ≤ 16) × (count ≤ 16) ⌝ }
-    ensures { λ r. ⌜ r ≡ all (evenColumnAt (now (home .entry)) (now (image .entry)) n (now (there .entry)) c d) (upto count) ⌝ }
+    ensures { λ r. ⌜ r ≡ all (evenColumnAt (now (home .entry)) (now (image .entry)) n (now («target_home» .entry)) c d) (upto count) ⌝ }
 {
     let mut b = 0;
     while b < count {
         let k = b;
         b += 1;
-        if there[k] == d {
+        if target_home[k] == d {
             if count_over(home, image, n, c, k as u8) != 1 {
                 return false;
             }
@@ -195,18 +227,18 @@ fn columns_even<'a>(
     true
 }
 
-// The same for each node of S.
-fn attributes_even(s: Schema, t: Schema, m: Mapping) -> bool
+// Whether, for each node c of S, each attribute at its image is the image of exactly one at c.
+fn attributes_even(s: Schema, t: Schema, f: Mapping) -> bool
     requires { ⌜ (s .graph .nodes ≤ 16) × (s .attributes ≤ 16) × (t .attributes ≤ 16) ⌝ }
-    ensures { λ r. ⌜ r ≡ all (evenColumnsAt s t m) (upto (s .graph .nodes)) ⌝ }
+    ensures { λ r. ⌜ r ≡ all (evenColumnsAt s t f) (upto (s .graph .nodes)) ⌝ }
 {
     let nodes = s.graph.nodes;
     let mut c = 0;
     while c < nodes {
-        let d = m.node[c];
+        let d = f.node[c];
         if columns_even(
             &s.node,
-            &m.attribute,
+            &f.attribute,
             s.attributes,
             &t.node,
             t.attributes,
@@ -221,13 +253,13 @@ fn attributes_even(s: Schema, t: Schema, m: Mapping) -> bool
     true
 }
 
-pub fn is_even(s: Schema, t: Schema, sp: Paths, tp: Paths, m: Mapping) -> bool
-    requires { ⌜ Schemas s t sp tp × Sound s t sp m ⌝ }
-    ensures { λ r. ⌜ r ≡ even (schemaOf s) (schemaOf t) (mappingOf s m) ⌝ }
+pub fn is_even(s: Schema, t: Schema, source_paths: Paths, target_paths: Paths, f: Mapping) -> bool
+    requires { ⌜ Schemas s t «source_paths» «target_paths» × Sound s t «source_paths» f ⌝ }
+    ensures { λ r. ⌜ r ≡ even (schemaOf s) (schemaOf t) (mappingOf s f) ⌝ }
 {
-    let over = image_classes(&m.path, &tp.class);
-    if paths_even(s.graph.nodes, sp, tp, &over, &m.node) {
-        return attributes_even(s, t, m);
+    let over = image_classes(&f.path, &target_paths.class);
+    if paths_even(s.graph.nodes, source_paths, target_paths, &over, &f.node) {
+        return attributes_even(s, t, f);
     }
     false
 }

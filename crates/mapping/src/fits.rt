@@ -46,16 +46,16 @@ fn image_fits(g: Graph, image: Image, start: u8, end: u8) -> bool
         length: image.length,
         edges: edges,
     };
-    let trip = follow(g, path);
-    if trip.joins {
-        return trip.last == end;
+    let followed = follow(g, path);
+    if followed.joins {
+        return followed.last == end;
     }
     false
 }
 
-fn edges_fit(s: Schema, t: Schema, m: Mapping) -> bool
-    requires { ⌜ Sound s × Sound t × NodesIn s t m × Short (s .graph .edges) (m .edge) ⌝ }
-    ensures { λ r. ⌜ r ≡ all (edgeImageFits (schemaOf s) (schemaOf t) (mappingOf s m)) (upto (s .graph .edges)) ⌝ }
+fn edges_fit(s: Schema, t: Schema, f: Mapping) -> bool
+    requires { ⌜ Sound s × Sound t × NodesIn s t f × Short (s .graph .edges) (f .edge) ⌝ }
+    ensures { λ r. ⌜ r ≡ all (edgeImageFits (schemaOf s) (schemaOf t) (mappingOf s f)) (upto (s .graph .edges)) ⌝ }
 {
     let g = s.graph;
     let h = t.graph;
@@ -64,8 +64,8 @@ fn edges_fit(s: Schema, t: Schema, m: Mapping) -> bool
     while e < edges {
         let source = wide(g.source[e]);
         let target = wide(g.target[e]);
-        let image = m.edge[e];
-        if image_fits(h, image, m.node[source], m.node[target]) {
+        let image = f.edge[e];
+        if image_fits(h, image, f.node[source], f.node[target]) {
             e += 1;
         } else {
             return false;
@@ -80,23 +80,23 @@ fn attribute_fits<'a>(
     kind: &'a [u8; Schema::ATTRIBUTES],
     count: usize,
     b: usize,
-    home: u8,
-    like: u8,
+    at_node: u8,
+    of_kind: u8,
 ) -> bool
     requires { ⌜ count ≤ 16 ⌝ }
-    ensures { λ r. ⌜ r ≡ (ltb b count && eqb (getD (now (kind .entry)) b 0) like && eqb (getD (now (node .entry)) b 0) home) ⌝ }
+    ensures { λ r. ⌜ r ≡ (ltb b count && eqb (getD (now (kind .entry)) b 0) «of_kind» && eqb (getD (now (node .entry)) b 0) «at_node») ⌝ }
 {
     if b < count {
-        if kind[b] == like {
-            return node[b] == home;
+        if kind[b] == of_kind {
+            return node[b] == at_node;
         }
     }
     false
 }
 
-fn attributes_fit(s: Schema, t: Schema, m: Mapping) -> bool
+fn attributes_fit(s: Schema, t: Schema, f: Mapping) -> bool
     requires { ⌜ Sound s × Sound t ⌝ }
-    ensures { λ r. ⌜ r ≡ all (attributeImageFits (schemaOf s) (schemaOf t) (mappingOf s m)) (upto (s .attributes)) ⌝ }
+    ensures { λ r. ⌜ r ≡ all (attributeImageFits (schemaOf s) (schemaOf t) (mappingOf s f)) (upto (s .attributes)) ⌝ }
 {
     let node = t.node;
     let kind = t.kind;
@@ -104,8 +104,8 @@ fn attributes_fit(s: Schema, t: Schema, m: Mapping) -> bool
     let mut a = 0;
     while a < attributes {
         let home = wide(s.node[a]);
-        let b = wide(m.attribute[a]);
-        if attribute_fits(&node, &kind, t.attributes, b, m.node[home], s.kind[a]) {
+        let b = wide(f.attribute[a]);
+        if attribute_fits(&node, &kind, t.attributes, b, f.node[home], s.kind[a]) {
             a += 1;
         } else {
             return false;
@@ -114,14 +114,14 @@ fn attributes_fit(s: Schema, t: Schema, m: Mapping) -> bool
     true
 }
 
-pub fn images_fit(s: Schema, t: Schema, m: Mapping) -> bool
-    requires { ⌜ Sound s × Sound t × Short (s .graph .edges) (m .edge) ⌝ }
-    ensures { λ r. ⌜ r ≡ imagesFit (schemaOf s) (schemaOf t) (mappingOf s m) ⌝ }
+pub fn images_fit(s: Schema, t: Schema, f: Mapping) -> bool
+    requires { ⌜ Sound s × Sound t × Short (s .graph .edges) (f .edge) ⌝ }
+    ensures { λ r. ⌜ r ≡ imagesFit (schemaOf s) (schemaOf t) (mappingOf s f) ⌝ }
 {
-    let node = m.node;
+    let node = f.node;
     if nodes_fit(&node, s.graph.nodes, t.graph.nodes) {
-        if edges_fit(s, t, m) {
-            return attributes_fit(s, t, m);
+        if edges_fit(s, t, f) {
+            return attributes_fit(s, t, f);
         }
     }
     false

@@ -7,7 +7,6 @@ use schema::numbers::wide;
 use schema::walk::walk;
 ghost use mathlib.Core.Path.{_≡_};
 ghost use Prim.Native.Nat.{_<_, _≤_};
-ghost use lib.ListN.{getD};
 ghost use lib.Dec.{eqb};
 ghost use Rattle.meaning.specs.Lists.{all};
 ghost use Rattle.agreement.proofs.Paths.{numberOf};
@@ -26,25 +25,31 @@ pub fn index(x: u8) -> usize
 }
 
 // A path's image: its parent's, followed by the image of its last edge.
-pub fn path_images(s: Schema, t: Schema, sp: Paths, tp: Paths, m: Mapping) -> [u8; Mapping::PATHS]
-    requires { ⌜ Imageable s t sp tp m ⌝ }
-    ensures { λ r. ⌜ Filled 256 (imageNumber (schemaOf s) (schemaOf t) (mappingOf s m)) (sp .count) r ⌝ }
+pub fn path_images(
+    s: Schema,
+    t: Schema,
+    source_paths: Paths,
+    target_paths: Paths,
+    f: Mapping,
+) -> [u8; Mapping::PATHS]
+    requires { ⌜ Imageable s t «source_paths» «target_paths» f ⌝ }
+    ensures { λ r. ⌜ Filled 256 (imageNumber (schemaOf s) (schemaOf t) (mappingOf s f)) («source_paths» .count) r ⌝ }
 {
-    let count = sp.count;
+    let count = source_paths.count;
     let mut path = [0u8; Mapping::PATHS];
     let mut i = 0;
     while i < count {
         let k = i;
         i += 1;
         if k < s.graph.nodes {
-            path[k] = m.node[k];
+            path[k] = f.node[k];
         } else {
-            let parent = wide(sp.parent[k]);
-            let last = wide(sp.last[k]);
-            let image = m.edge[last];
+            let parent = wide(source_paths.parent[k]);
+            let last = wide(source_paths.last[k]);
+            let image = f.edge[last];
             path[k] = walk(
-                &tp.first,
-                &tp.rank,
+                &target_paths.first,
+                &target_paths.rank,
                 wide(path[parent]),
                 &image.edges,
                 image.length,
@@ -56,7 +61,7 @@ pub fn path_images(s: Schema, t: Schema, sp: Paths, tp: Paths, m: Mapping) -> [u
 
 // The class of the image of a path, by the image of each path and the class of each image.
 fn side_class<'a>(
-    first: &'a [u16; 257],
+    first: &'a [u16; Schema::PATHS + 1],
     rank: &'a [u8; Schema::EDGES],
     path: &'a [u8; Mapping::PATHS],
     class: &'a [u8; Schema::PATHS],
@@ -72,11 +77,11 @@ fn side_class<'a>(
 // Whether the sides of each equation have images of one class.
 pub fn sides_agree<'a>(
     s: Schema,
-    sp: Paths,
+    source_paths: Paths,
     path: &'a [u8; Mapping::PATHS],
     class: &'a [u8; Schema::PATHS],
 ) -> bool
-    requires { ⌜ Sound s × IsTable (graphOf (s .graph)) sp ⌝ }
+    requires { ⌜ Sound s × IsTable (graphOf (s .graph)) «source_paths» ⌝ }
     ensures { λ r. ⌜ r ≡ all (λ q. eqb (sideClass (now (path .entry)) (now (class .entry)) (numberOf (graphOf (s .graph)) (q .left))) (sideClass (now (path .entry)) (now (class .entry)) (numberOf (graphOf (s .graph)) (q .right)))) (schemaOf s .equations) ⌝ }
 {
     let n = s.equations;
@@ -84,8 +89,8 @@ pub fn sides_agree<'a>(
     while q < n {
         let left = s.left[q];
         let right = s.right[q];
-        if side_class(&sp.first, &sp.rank, path, class, left)
-            == side_class(&sp.first, &sp.rank, path, class, right)
+        if side_class(&source_paths.first, &source_paths.rank, path, class, left)
+            == side_class(&source_paths.first, &source_paths.rank, path, class, right)
         {
             q += 1;
         } else {

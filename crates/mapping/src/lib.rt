@@ -7,6 +7,7 @@ pub mod fits;
 pub mod images;
 pub mod lifts;
 
+use schema::Path;
 use schema::Paths;
 use schema::Schema;
 ghost use mathlib.Core.Path.{_≡_};
@@ -18,7 +19,7 @@ ghost use Rattle.mapping.specs.Judged.{Schemas, testMapping, Says};
 // The image of an edge: edges of T, from the image of the edge's source on. Their number is a field of 4 bits.
 pub struct Image {
     pub length: usize,
-    pub edges: [u8; 16],
+    pub edges: [u8; Path::EDGES],
 }
 
 impl Image {
@@ -28,7 +29,7 @@ impl Image {
     {
         Image {
             length: 0,
-            edges: [0u8; 16],
+            edges: [0u8; Path::EDGES],
         }
     }
 }
@@ -51,7 +52,8 @@ impl Mapping {
 
     pub const PATHS: usize = Schema::PATHS;
 
-    pub const LIFTS: usize = 512;
+    // A place for each edge of T and each node of S.
+    pub const LIFTS: usize = Schema::EDGES * Schema::NODES;
 
     // A sheet sent back with a number.
     pub fn faulty(number: u8) -> Mapping
@@ -69,17 +71,17 @@ impl Mapping {
 }
 
 // Tests 7 and 8.
-fn tested(s: Schema, t: Schema, sp: Paths, tp: Paths, m: Mapping) -> Mapping
-    requires { ⌜ Schemas s t sp tp × Short (s .graph .edges) (m .edge) ⌝ }
-    ensures { λ r. ⌜ Says s t sp r (testMapping (schemaOf s) (schemaOf t) (mappingOf s m)) ⌝ }
+fn tested(s: Schema, t: Schema, source_paths: Paths, target_paths: Paths, f: Mapping) -> Mapping
+    requires { ⌜ Schemas s t «source_paths» «target_paths» × Short (s .graph .edges) (f .edge) ⌝ }
+    ensures { λ r. ⌜ Says s t «source_paths» r (testMapping (schemaOf s) (schemaOf t) (mappingOf s f)) ⌝ }
 {
-    if fits::images_fit(s, t, m) {
-        let path = images::path_images(s, t, sp, tp, m);
-        let class = tp.class;
-        if images::sides_agree(s, sp, &path, &class) {
-            let node = m.node;
-            let edge = m.edge;
-            let attribute = m.attribute;
+    if fits::images_fit(s, t, f) {
+        let path = images::path_images(s, t, source_paths, target_paths, f);
+        let class = target_paths.class;
+        if images::sides_agree(s, source_paths, &path, &class) {
+            let node = f.node;
+            let edge = f.edge;
+            let attribute = f.attribute;
             return Mapping {
                 fault: 0,
                 node: node,
@@ -94,14 +96,20 @@ fn tested(s: Schema, t: Schema, sp: Paths, tp: Paths, m: Mapping) -> Mapping
 }
 
 // A mapping sheet judged, between two schemas with their tables of paths: what it says, or the first number that applies to it.
-pub fn judge_mapping(s: Schema, t: Schema, sp: Paths, tp: Paths, sheet: &[u8]) -> Mapping
-    requires { ⌜ Schemas s t sp tp ⌝ }
-    ensures { λ r. ⌜ Says s t sp r (judgeMapping (schemaOf s) (schemaOf t) (now (sheet .entry))) ⌝ }
+pub fn judge_mapping(
+    s: Schema,
+    t: Schema,
+    source_paths: Paths,
+    target_paths: Paths,
+    sheet: &[u8],
+) -> Mapping
+    requires { ⌜ Schemas s t «source_paths» «target_paths» ⌝ }
+    ensures { λ r. ⌜ Says s t «source_paths» r (judgeMapping (schemaOf s) (schemaOf t) (now (sheet .entry))) ⌝ }
 {
-    let m = decode::decode_mapping(s, sheet);
-    let fault = m.fault;
+    let f = decode::decode_mapping(s, sheet);
+    let fault = f.fault;
     if fault == 0 {
-        return tested(s, t, sp, tp, m);
+        return tested(s, t, source_paths, target_paths, f);
     }
     Mapping::faulty(fault)
 }

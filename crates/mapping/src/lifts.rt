@@ -13,7 +13,7 @@ ghost use Rattle.mapping.specs.Even.{isOver};
 ghost use Rattle.mapping.specs.Judged.{Schemas, Sound};
 ghost use Rattle.mapping.specs.Lifts.{EdgeLifts, joinedBefore};
 
-// The first of n numbers at which home has c and image has b, or none.
+// The first of n numbers at which home has c and image has b, or the number none.
 // Of paths, where home has their starts and image the classes of their images, it is the lift of class b at c, with the trivial path c as none;
 // of attributes, where home has their nodes and image their images, the one at c over b, with none 0.
 pub fn first_over<'a>(home: &'a [u8], image: &'a [u8], n: usize, c: u8, b: u8, none: usize) -> usize
@@ -34,39 +34,46 @@ pub fn first_over<'a>(home: &'a [u8], image: &'a [u8], n: usize, c: u8, b: u8, n
 }
 
 // The class of an edge of T as a path, from its source d on.
-pub fn edge_class<'a>(
-    first: &'a [u16; 257],
-    rank: &'a [u8; Schema::EDGES],
-    class: &'a [u8; Schema::PATHS],
-    d: usize,
-    e: usize,
-) -> u8
-    requires { ⌜ (d < 257) × (e < 32) × (getD (now first) d 0 + getD (now rank) e 0 < 256) ⌝ }
-    ensures { λ r. ⌜ r ≡ getD (now (class .entry)) (getD (now (first .entry)) d 0 + getD (now (rank .entry)) e 0) 0 ⌝ }
+fn edge_class(target_paths: Paths, d: usize, e: usize) -> u8
+    requires { ⌜ (d < 257) × (e < 32) × (getD («target_paths» .first) d 0 + getD («target_paths» .rank) e 0 < 256) ⌝ }
+    ensures { λ r. ⌜ r ≡ getD («target_paths» .class) (getD («target_paths» .first) d 0 + getD («target_paths» .rank) e 0) 0 ⌝ }
 {
-    let x = index(first[d]) + wide(rank[e]);
-    class[x]
+    let x = index(target_paths.first[d]) + wide(target_paths.rank[e]);
+    target_paths.class[x]
 }
 
 // For each edge e of T and each node c of S at whose image it begins, at 16 * e + c: the number of the first path from c over e, or c.
-pub fn edge_lifts(s: Schema, t: Schema, sp: Paths, tp: Paths, m: Mapping) -> [u8; Mapping::LIFTS]
-    requires { ⌜ Schemas s t sp tp × Sound s t sp m ⌝ }
-    ensures { λ r. ⌜ EdgeLifts s t sp m (16 * t .graph .edges) r ⌝ }
+pub fn edge_lifts(
+    s: Schema,
+    t: Schema,
+    source_paths: Paths,
+    target_paths: Paths,
+    f: Mapping,
+) -> [u8; Mapping::LIFTS]
+    requires { ⌜ Schemas s t «source_paths» «target_paths» × Sound s t «source_paths» f ⌝ }
+    ensures { λ r. ⌜ EdgeLifts s t «source_paths» f (16 * t .graph .edges) r ⌝ }
 {
-    let over = image_classes(&m.path, &tp.class);
+    let over = image_classes(&f.path, &target_paths.class);
     let g = t.graph;
     let mut lifts = [0u8; Mapping::LIFTS];
     let mut i = 0;
-    while i < 16 * t.graph.edges {
+    while i < Schema::NODES * t.graph.edges {
         let k = i;
-        let e = k / 16;
-        let c = k % 16;
+        let e = k / Schema::NODES;
+        let c = k % Schema::NODES;
         i += 1;
         if c < s.graph.nodes {
-            let d = m.node[c];
+            let d = f.node[c];
             if g.source[e] == d {
-                let b = edge_class(&tp.first, &tp.rank, &tp.class, wide(d), e);
-                lifts[k] = first_over(&sp.start, &over, sp.count, c as u8, b, c) as u8;
+                let b = edge_class(target_paths, wide(d), e);
+                lifts[k] = first_over(
+                    &source_paths.start,
+                    &over,
+                    source_paths.count,
+                    c as u8,
+                    b,
+                    c,
+                ) as u8;
             }
         }
     }

@@ -38,10 +38,10 @@ loop-again : tie.Need-loop-again Inv-loop μ-loop
 loop-again c = passed-more (c .before .before .before .before .loop .inv) (c .before .before .before .loop-test .taken) (rw (← c .before .count-to .ensures) (eq-eqb _ _ (c .if1 .taken)))
 
 returns : tie.Need-returns Inv-loop μ-loop
-returns c = let a = c .before .before .before .before .before .before .args in sym (bijective-by (a .s) (a .m) (a .t) ∙ upto-fail (c .before .before .before .before .loop .inv) (c .before .before .before .loop-test .taken) (rw (← c .before .count-to .ensures) (ne-eqb _ _ (c .if1 .left))))
+returns c = let a = c .before .before .before .before .before .before .args in sym (bijective-by (a .s) (a .f) (a .t) ∙ upto-fail (c .before .before .before .before .loop .inv) (c .before .before .before .loop-test .taken) (rw (← c .before .count-to .ensures) (ne-eqb _ _ (c .if1 .left))))
 
 returns-2 : tie.Need-returns-2 Inv-loop μ-loop
-returns-2 c = let a = c .before .before .before .args in sym (bijective-by (a .s) (a .m) (a .t) ∙ upto-done (c .before .loop .inv) (c .loop-test .left))
+returns-2 c = let a = c .before .before .before .args in sym (bijective-by (a .s) (a .f) (a .t) ∙ upto-done (c .before .loop .inv) (c .loop-test .left))
 
 pub is-bijective-spec : {M : Type 1} → statement M
 is-bijective-spec =

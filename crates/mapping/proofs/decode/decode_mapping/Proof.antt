@@ -16,15 +16,15 @@ use Rattle.mapping.proofs.decode.decode_mapping.Statement.{statement}
 use Rattle.mapping.proofs.decode.decode_mapping.Tie as tie
 
 -- the node images lie in the sheet
-room : (c : tie.Else1) → 4 * c .before .before .before .args .t .graph .nodes ≤ 8 * length (c .before .before .before .args .s .now)
-room c = let h : 0 + 4 * c .before .before .before .args .t .graph .nodes ≤ 8 * length (c .before .before .before .args .s .now) = ltb-false _ _ (sym (c .before .lacks-at .ensures) ∙ c .if1 .left) in omega arith
+room : (c : tie.Else1) → 4 * c .before .before .before .args .s .graph .nodes ≤ 8 * length (c .before .before .before .args .sheet .now)
+room c = let h : 0 + 4 * c .before .before .before .args .s .graph .nodes ≤ 8 * length (c .before .before .before .args .sheet .now) = ltb-false _ _ (sym (c .before .lacks-at .ensures) ∙ c .if1 .left) in omega arith
 
 -- and the edge images behind them
-images : (c : tie.Else2) → times (c .before .before .before .before .before .args .t .graph .edges) readEdges (c .before .before .before .before .before .args .s .now) (4 * c .before .before .before .before .before .args .t .graph .nodes) ≡ reads (imagesOf (c .before .before .before .before .before .args .t .graph .edges) (c .before .read-images .result .edge)) (c .before .read-images .result .next)
+images : (c : tie.Else2) → times (c .before .before .before .before .before .args .s .graph .edges) readEdges (c .before .before .before .before .before .args .sheet .now) (4 * c .before .before .before .before .before .args .s .graph .nodes) ≡ reads (imagesOf (c .before .before .before .before .before .args .s .graph .edges) (c .before .read-images .result .edge)) (c .before .read-images .result .next)
 images c = sym (rw (c .if2 .left) at (c .before .read-images .ensures .says))
 
 -- and the attribute images behind those
-rest : (c : tie.Else3) → c .before .before .before .read-images .result .next + 4 * c .before .before .before .before .before .before .before .args .t .attributes ≤ 8 * length (c .before .before .before .before .before .before .before .args .s .now)
+rest : (c : tie.Else3) → c .before .before .before .read-images .result .next + 4 * c .before .before .before .before .before .before .before .args .s .attributes ≤ 8 * length (c .before .before .before .before .before .before .before .args .sheet .now)
 rest c = ltb-false _ _ (sym (c .before .lacks-at2 .ensures) ∙ c .if3 .left)
 
 mul-first : tie.Need-mul-first
@@ -39,8 +39,8 @@ faulty-requires c κs = search needs
 returns : tie.Need-returns
 returns c =
     let a = c .before .before .before .before .args in
-    let h : 8 * length (a .s .now) < 0 + 4 * a .t .graph .nodes = ltb-true _ _ (sym (c .before .before .lacks-at .ensures) ∙ c .before .if1 .taken) in
-    faulty-decoded (c .faulty .ensures) (ap judged (mapping-short (a .t) (a .s .now) (omega arith)))
+    let h : 8 * length (a .sheet .now) < 0 + 4 * a .s .graph .nodes = ltb-true _ _ (sym (c .before .before .lacks-at .ensures) ∙ c .before .if1 .taken) in
+    faulty-decoded (c .faulty .ensures) (ap judged (mapping-short (a .s) (a .sheet .now) (omega arith)))
 
 read-images-requires : tie.Need-read-images-requires
 read-images-requires c κs = let h = room c in let k = c .before .before .before .pre in (record { inside = h; counted = omega arith }, k .edges)
@@ -51,8 +51,8 @@ faulty-requires-2 c κs = search needs
 returns-2 : tie.Need-returns-2
 returns-2 c =
     let a = c .before .before .before .before .before .before .args in
-    let r : fails 1 ≡ times (a .t .graph .edges) readEdges (a .s .now) (4 * a .t .graph .nodes) = rw (c .before .if2 .taken) at (c .before .before .read-images .ensures .says) in
-    faulty-decoded (c .faulty2 .ensures) (ap judged (mapping-fails (a .t) (a .s .now) (room (c .before .before .before)) (sym r)))
+    let r : fails 1 ≡ times (a .s .graph .edges) readEdges (a .sheet .now) (4 * a .s .graph .nodes) = rw (c .before .if2 .taken) at (c .before .before .read-images .ensures .says) in
+    faulty-decoded (c .faulty2 .ensures) (ap judged (mapping-fails (a .s) (a .sheet .now) (room (c .before .before .before)) (sym r)))
 
 mul-last : tie.Need-mul-last
 mul-last c = search needs
@@ -67,8 +67,8 @@ returns-3 : tie.Need-returns-3
 returns-3 c =
     let a = c .before .before .before .before .before .before .before .before .args in
     let r = c .before .before .before .before .read-images in
-    let h : 8 * length (a .s .now) < r .result .next + 4 * a .t .attributes = ltb-true _ _ (sym (c .before .before .lacks-at2 .ensures) ∙ c .before .if3 .taken) in
-    faulty-decoded (c .faulty3 .ensures) (ap judged (mapping-cut (a .t) (a .s .now) (room (c .before .before .before .before .before)) (images (c .before .before .before)) (r .ensures .inside) h))
+    let h : 8 * length (a .sheet .now) < r .result .next + 4 * a .s .attributes = ltb-true _ _ (sym (c .before .before .lacks-at2 .ensures) ∙ c .before .if3 .taken) in
+    faulty-decoded (c .faulty3 .ensures) (ap judged (mapping-cut (a .s) (a .sheet .now) (room (c .before .before .before .before .before)) (images (c .before .before .before)) (r .ensures .inside) h))
 
 ends-after-requires : tie.Need-ends-after-requires
 ends-after-requires c κs = search needs
@@ -82,9 +82,9 @@ column-requires-2 c κs = let h = rest (c .before .before .before) in let k = c 
 returns-4 : tie.Need-returns-4
 returns-4 c =
     let a = c .before .before .before .before .before .before .before .before .before .before .before .before .args in
-    let t : tailOk (a .s .now) (c .before .before .before .before .before .before .before .before .read-images .result .next + 4 * a .t .attributes) ≡ true = sym (c .before .before .before .before .ends-after .ensures) ∙ c .before .before .before .if4 .taken in
+    let t : tailOk (a .sheet .now) (c .before .before .before .before .before .before .before .before .read-images .result .next + 4 * a .s .attributes) ≡ true = sym (c .before .before .before .before .ends-after .ensures) ∙ c .before .before .before .if4 .taken in
     record {
-      says = rw (tabulate-same (a .t .graph .nodes) (c .before .before .column .ensures .each), tabulate-same (a .t .attributes) (c .before .column2 .ensures .each)) (sym (ap judged (mapping-read (a .t) (a .s .now) (room (c .before .before .before .before .before .before .before .before .before)) (images (c .before .before .before .before .before .before .before)) (rest (c .before .before .before .before .before)) t)));
+      says = rw (tabulate-same (a .s .graph .nodes) (c .before .before .column .ensures .each), tabulate-same (a .s .attributes) (c .before .column2 .ensures .each)) (sym (ap judged (mapping-read (a .s) (a .sheet .now) (room (c .before .before .before .before .before .before .before .before .before)) (images (c .before .before .before .before .before .before .before)) (rest (c .before .before .before .before .before)) t)));
       short = c .before .before .before .before .before .before .before .before .read-images .ensures .short (c .before .before .before .before .before .before .before .if2 .left);
     }
 
@@ -94,8 +94,8 @@ faulty-requires-4 c κs = search needs
 returns-5 : tie.Need-returns-5
 returns-5 c =
     let a = c .before .before .before .before .before .before .before .before .before .before .args in
-    let t : tailOk (a .s .now) (c .before .before .before .before .before .before .read-images .result .next + 4 * a .t .attributes) ≡ false = sym (c .before .before .ends-after .ensures) ∙ c .before .if4 .left in
-    faulty-decoded (c .faulty4 .ensures) (ap judged (mapping-tail (a .t) (a .s .now) (room (c .before .before .before .before .before .before .before)) (images (c .before .before .before .before .before)) (rest (c .before .before .before)) t))
+    let t : tailOk (a .sheet .now) (c .before .before .before .before .before .before .read-images .result .next + 4 * a .s .attributes) ≡ false = sym (c .before .before .ends-after .ensures) ∙ c .before .if4 .left in
+    faulty-decoded (c .faulty4 .ensures) (ap judged (mapping-tail (a .s) (a .sheet .now) (room (c .before .before .before .before .before .before .before)) (images (c .before .before .before .before .before)) (rest (c .before .before .before)) t))
 
 pub decode-mapping-spec : {M : Type 1} → statement M
 decode-mapping-spec =

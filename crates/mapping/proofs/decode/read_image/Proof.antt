@@ -20,13 +20,13 @@ lacks-at-requires c κs = search needs
 returns : tie.Need-returns
 returns c =
     let a = c .before .before .before .before in
-    let h : 8 * length (a .args .s .now) < a .args .at + 4 = ltb-true _ _ (sym (c .before .lacks-at .ensures) ∙ c .if1 .taken) in
-    record { says = sym (edges-short (a .args .s .now) (a .args .at) (a .pre .inside) h); inside = a .pre .inside; near = omega arith; short = rw (c .before .before .empty .ensures) (omega arith) }
+    let h : 8 * length (a .args .sheet .now) < a .args .at + 4 = ltb-true _ _ (sym (c .before .lacks-at .ensures) ∙ c .if1 .taken) in
+    record { says = sym (edges-short (a .args .sheet .now) (a .args .at) (a .pre .inside) h); inside = a .pre .inside; near = omega arith; short = rw (c .before .before .empty .ensures) (omega arith) }
 
 small-requires : tie.Need-small-requires
 small-requires c κs =
     let a = c .before .before .before .before in
-    let h : a .args .at + 4 ≤ 8 * length (a .args .s .now) = ltb-false _ _ (sym (c .before .lacks-at .ensures) ∙ c .if1 .left) in
+    let h : a .args .at + 4 ≤ 8 * length (a .args .sheet .now) = ltb-false _ _ (sym (c .before .lacks-at .ensures) ∙ c .if1 .left) in
     omega arith
 
 cast-n : tie.Need-cast-n
@@ -45,9 +45,9 @@ returns-2 : tie.Need-returns-2
 returns-2 c =
     let a = c .before .before .before .before .before .before .before in
     let k = c .before .before .small .ensures in
-    let g : a .args .at + 4 ≤ 8 * length (a .args .s .now) = ltb-false _ _ (sym (c .before .before .before .before .lacks-at .ensures) ∙ c .before .before .before .if1 .left) in
-    let h : 8 * length (a .args .s .now) < a .args .at + 4 + 5 * c .before .before .small .result = ltb-true _ _ (sym (c .before .lacks-at2 .ensures) ∙ c .if2 .taken) in
-    record { says = sym (edges-cut (a .args .s .now) (a .args .at) g (omega arith)); inside = a .pre .inside; near = omega arith; short = rw (c .before .before .before .before .before .empty .ensures) (omega arith) }
+    let g : a .args .at + 4 ≤ 8 * length (a .args .sheet .now) = ltb-false _ _ (sym (c .before .before .before .before .lacks-at .ensures) ∙ c .before .before .before .if1 .left) in
+    let h : 8 * length (a .args .sheet .now) < a .args .at + 4 + 5 * c .before .before .small .result = ltb-true _ _ (sym (c .before .lacks-at2 .ensures) ∙ c .if2 .taken) in
+    record { says = sym (edges-cut (a .args .sheet .now) (a .args .at) g (omega arith)); inside = a .pre .inside; near = omega arith; short = rw (c .before .before .before .before .before .empty .ensures) (omega arith) }
 
 add-column : tie.Need-add-column
 add-column c = search needs
@@ -56,8 +56,8 @@ column-requires : tie.Need-column-requires
 column-requires c κs =
     let a = c .before .before .before .before .before .before .before in
     let k = c .before .before .small .ensures in
-    let b = field-below (a .args .s .now) (a .args .at) 4 in
-    let h : a .args .at + 4 + 5 * c .before .before .small .result ≤ 8 * length (a .args .s .now) = ltb-false _ _ (sym (c .before .lacks-at2 .ensures) ∙ c .if2 .left) in
+    let b = field-below (a .args .sheet .now) (a .args .at) 4 in
+    let h : a .args .at + 4 + 5 * c .before .before .small .result ≤ 8 * length (a .args .sheet .now) = ltb-false _ _ (sym (c .before .lacks-at2 .ensures) ∙ c .if2 .left) in
     record { few = omega arith; narrow = omega arith; counted = let g = a .pre .counted in omega arith; within = λ i l. omega arith }
 
 add-t11 : tie.Need-add-t11
@@ -73,10 +73,10 @@ returns-3 : tie.Need-returns-3
 returns-3 c =
     let a = c .before .before .before .before .before .before .before .before in
     let k = c .before .before .before .small .ensures in
-    let b = field-below (a .args .s .now) (a .args .at) 4 in
-    let h : a .args .at + 4 + 5 * c .before .before .before .small .result ≤ 8 * length (a .args .s .now) = ltb-false _ _ (sym (c .before .before .lacks-at2 .ensures) ∙ c .before .if2 .left) in
+    let b = field-below (a .args .sheet .now) (a .args .at) 4 in
+    let h : a .args .at + 4 + 5 * c .before .before .before .small .result ≤ 8 * length (a .args .sheet .now) = ltb-false _ _ (sym (c .before .before .lacks-at2 .ensures) ∙ c .before .if2 .left) in
     record {
-      says = rw (tabulate-same (c .before .before .before .small .result) (c .column .ensures .each), k) (sym (edges-read (a .args .s .now) (a .args .at) (omega arith)));
+      says = rw (tabulate-same (c .before .before .before .small .result) (c .column .ensures .each), k) (sym (edges-read (a .args .sheet .now) (a .args .at) (omega arith)));
       inside = h;
       near = omega arith;
       short = omega arith;

@@ -17,19 +17,19 @@ use Rattle.mapping.specs.Decoded.{imageOf, imagesOf, noImage, Short}
 use Rattle.mapping.proofs.decode.read_images.Statement.{statement}
 use Rattle.mapping.proofs.decode.read_images.Tie as tie
 
-record Kept (s : List ℕ) (at n : ℕ) (edge : List Image) (i p : ℕ) : Type 0 where
+record Kept (sheet : List ℕ) (at n : ℕ) (edge : List Image) (i p : ℕ) : Type 0 where
   some : i ≤ n
-  inside : p ≤ 8 * length s
+  inside : p ≤ 8 * length sheet
   near : p ≤ at + 79 * i
-  read-so-far : Under readEdges n s at (imagesOf i edge) i p
+  read-so-far : Under readEdges n sheet at (imagesOf i edge) i p
   short : Short i edge
   long : length edge ≡ 32
 
 abbrev Inv-loop : tie.InvT-loop
-Inv-loop s at n edge₀ i₀ p₀ edge i p = Kept s at n edge i p
+Inv-loop sheet at n edge₀ i₀ p₀ edge i p = Kept sheet at n edge i p
 
 abbrev μ-loop : tie.MeasureT-loop
-μ-loop s at n edge₀ i₀ p₀ edge i p = n - i
+μ-loop sheet at n edge₀ i₀ p₀ edge i p = n - i
 
 empty-requires : tie.Need-empty-requires Inv-loop μ-loop
 empty-requires c κs = search needs
@@ -41,7 +41,7 @@ loop-holds c =
       some = omega arith;
       inside = a .pre .0 .inside;
       near = omega arith;
-      read-so-far = under-start readEdges (a .args .n) (a .args .s .now) (a .args .at);
+      read-so-far = under-start readEdges (a .args .n) (a .args .sheet .now) (a .args .at);
       short = record { each = below-none _ };
       long = length-replicate {A = Image} 32 (c .empty .result);
     }
@@ -55,7 +55,7 @@ returns : tie.Need-returns Inv-loop μ-loop
 returns c =
     let a = c .before .before .before .before .before .before in
     let v = c .before .before .before .loop in
-    let e : fails 1 ≡ readEdges (a .args .s .now) (v .p) = rw (c .if1 .taken) at (c .before .read-image .ensures .says) in
+    let e : fails 1 ≡ readEdges (a .args .sheet .now) (v .p) = rw (c .if1 .taken) at (c .before .read-image .ensures .says) in
     record { says = sym (under-cut (v .inv .read-so-far) (c .before .before .loop-test .taken) (sym e)); inside = a .pre .0 .inside; near = omega arith; short = λ h. absurd (no-bool (sym h)) }
 
 mul-edge : tie.Need-mul-edge Inv-loop μ-loop
@@ -77,7 +77,7 @@ loop-again c =
     let k = v .inv in
     let r = c .before .before .read-image in
     let t = c .before .before .before .loop-test .taken in
-    let e : reads (imageOf (r .result .image)) (r .result .next) ≡ readEdges (a .args .s .now) (v .p) = rw (c .before .if1 .left) at (r .ensures .says) in
+    let e : reads (imageOf (r .result .image)) (r .result .next) ≡ readEdges (a .args .sheet .now) (v .p) = rw (c .before .if1 .left) at (r .ensures .says) in
     let l : v .i < length (v .edge) = omega (arith, k .long, a .pre .1) in
     record {
       some = omega arith;

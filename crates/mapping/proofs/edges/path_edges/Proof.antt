@@ -9,10 +9,10 @@ use Rattle.mapping.proofs.edges.path_edges.Statement.{statement}
 use Rattle.mapping.proofs.edges.path_edges.Tie as tie
 
 abbrev Inv-loop : tie.InvT-loop
-Inv-loop i p edges₀ n k₀ x₀ edges k x = Walked (p .last) (p .parent) i n edges k x
+Inv-loop i paths edges₀ n k₀ x₀ edges k x = Walked (paths .last) (paths .parent) i n edges k x
 
 abbrev μ-loop : tie.MeasureT-loop
-μ-loop i p edges₀ n k₀ x₀ edges k x = k
+μ-loop i paths edges₀ n k₀ x₀ edges k x = k
 
 element-copy-out-index : tie.Need-element-copy-out-index Inv-loop μ-loop
 element-copy-out-index c = omega (arith, c .pre .0)

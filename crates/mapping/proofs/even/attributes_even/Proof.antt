@@ -9,10 +9,10 @@ use Rattle.mapping.proofs.even.attributes_even.Statement.{statement}
 use Rattle.mapping.proofs.even.attributes_even.Tie as tie
 
 abbrev Inv-loop : tie.InvT-loop
-Inv-loop s t m nodes c₀ c = Passed (evenColumnsAt s t m) (s .graph .nodes) (λ k. k) c
+Inv-loop s t f nodes c₀ c = Passed (evenColumnsAt s t f) (s .graph .nodes) (λ k. k) c
 
 abbrev μ-loop : tie.MeasureT-loop
-μ-loop s t m nodes c₀ c = s .graph .nodes - c
+μ-loop s t f nodes c₀ c = s .graph .nodes - c
 
 loop-holds : tie.Need-loop-holds Inv-loop μ-loop
 loop-holds c = passed-start _ _ _

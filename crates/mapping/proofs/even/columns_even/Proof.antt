@@ -10,10 +10,10 @@ use Rattle.mapping.proofs.even.columns_even.Statement.{statement}
 use Rattle.mapping.proofs.even.columns_even.Tie as tie
 
 abbrev Inv-loop : tie.InvT-loop
-Inv-loop home image n there count c d b₀ b = Passed (evenColumnAt home image n there c d) count (λ k. k) b
+Inv-loop home image n target-home count c d b₀ b = Passed (evenColumnAt home image n target-home c d) count (λ k. k) b
 
 abbrev μ-loop : tie.MeasureT-loop
-μ-loop home image n there count c d b₀ b = count - b
+μ-loop home image n target-home count c d b₀ b = count - b
 
 loop-holds : tie.Need-loop-holds Inv-loop μ-loop
 loop-holds c = passed-start _ _ _

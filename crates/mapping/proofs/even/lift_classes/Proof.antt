@@ -29,11 +29,11 @@ element-copy-out-index c = let f = c .before .before .before .before .pre in ome
 index-requires : tie.Need-index-requires Inv-loop μ-loop
 index-requires c κs = search needs
 
-element-copy-out-word : tie.Need-element-copy-out-word Inv-loop μ-loop
-element-copy-out-word c = let f = c .before .before .before .before .before .before .pre in let l = c .before .before .before .before .loop-test .taken in omega arith
+element-copy-out-as-u16 : tie.Need-element-copy-out-as-u16 Inv-loop μ-loop
+element-copy-out-as-u16 c = let f = c .before .before .before .before .before .before .pre in let l = c .before .before .before .before .loop-test .taken in omega arith
 
-word-requires : tie.Need-word-requires Inv-loop μ-loop
-word-requires c κs = search needs
+as-u16-requires : tie.Need-as-u16-requires Inv-loop μ-loop
+as-u16-requires c κs = search needs
 
 mul-lifts : tie.Need-mul-lifts Inv-loop μ-loop
 mul-lifts c = let h = c .before .before .index .ensures .1 in omega arith
@@ -49,7 +49,7 @@ loop-again c =
     let v = c .before .before .before .before .before .before .before .loop in
     let l = c .before .before .before .before .before .before .loop-test .taken in
     let a = c .before .before .before .before .before .before .before .before .args in
-    (omega arith, rw (c .word .ensures .0, c .before .before .index .ensures .0, v .inv .1) (sym (lifts-more (a .start .now) (a .class .now) (a .over .now) (a .c) (v .i) (c .before .before .before .before .if1 .taken))))
+    (omega arith, rw (c .as-u16 .ensures .0, c .before .before .index .ensures .0, v .inv .1) (sym (lifts-more (a .start .now) (a .class .now) (a .over .now) (a .c) (v .i) (c .before .before .before .before .if1 .taken))))
 
 loop-less-2 : tie.Need-loop-less-2 Inv-loop μ-loop
 loop-less-2 c = let l = c .before .before .loop-test .taken in omega arith
@@ -75,8 +75,8 @@ lift-classes-spec =
     element-copy-out-if1
     element-copy-out-index
     index-requires
-    element-copy-out-word
-    word-requires
+    element-copy-out-as-u16
+    as-u16-requires
     mul-lifts
     array-write-lifts
     loop-less

@@ -9,50 +9,37 @@ use Rattle.mapping.proofs.even.paths_even.Statement.{statement}
 use Rattle.mapping.proofs.even.paths_even.Tie as tie
 
 abbrev Inv-loop : tie.InvT-loop
-Inv-loop nodes over node sp tp i₀ i = Passed (evenPathsAt sp tp over node) nodes (λ k. k) i
+Inv-loop nodes source-paths target-paths over node c₀ c = Passed (evenPathsAt source-paths target-paths over node) nodes (λ k. k) c
 
 abbrev μ-loop : tie.MeasureT-loop
-μ-loop nodes over node sp tp i₀ i = nodes - i
+μ-loop nodes source-paths target-paths over node c₀ c = nodes - c
 
 loop-holds : tie.Need-loop-holds Inv-loop μ-loop
 loop-holds c = passed-start _ _ _
 
-cast-c : tie.Need-cast-c Inv-loop μ-loop
-cast-c c = let f = c .before .before .pre .0 in omega arith
+cast-each-has-one-lift : tie.Need-cast-each-has-one-lift Inv-loop μ-loop
+cast-each-has-one-lift c = let f = c .before .before .pre .0 in omega arith
 
-lift-classes-requires : tie.Need-lift-classes-requires Inv-loop μ-loop
-lift-classes-requires c κs = c .before .before .before .before .before .pre .1
+element-copy-out-each-has-one-lift : tie.Need-element-copy-out-each-has-one-lift Inv-loop μ-loop
+element-copy-out-each-has-one-lift c = let f = c .before .before .pre .0 in omega arith
 
-agree-requires : tie.Need-agree-requires Inv-loop μ-loop
-agree-requires c κs = c .before .before .before .before .before .before .before .before .before .before .pre .1
+each-has-one-lift-requires : tie.Need-each-has-one-lift-requires Inv-loop μ-loop
+each-has-one-lift-requires c κs = (c .before .before .before .pre .1, c .before .before .before .pre .2)
 
-element-copy-out-met : tie.Need-element-copy-out-met Inv-loop μ-loop
-element-copy-out-met c = let f = c .before .before .before .before .before .before .before .before .before .before .before .before .before .before .before .before .pre .0 in let l = c .before .before .before .before .before .before .before .before .before .before .before .before .before .before .loop-test .taken in omega arith
-
-met-requires : tie.Need-met-requires Inv-loop μ-loop
-met-requires c κs = c .before .before .before .before .before .before .before .before .before .before .before .before .before .before .before .before .before .pre .2
-
-add-i : tie.Need-add-i Inv-loop μ-loop
-add-i c = let f = c .before .before .before .before .before .before .before .before .before .before .before .before .before .before .before .before .before .before .before .pre .0 in let l = c .before .before .before .before .before .before .before .before .before .before .before .before .before .before .before .before .before .loop-test .taken in omega arith
+add-c : tie.Need-add-c Inv-loop μ-loop
+add-c c = let f = c .before .before .before .before .before .pre .0 in let l = c .before .before .before .loop-test .taken in omega arith
 
 loop-less : tie.Need-loop-less Inv-loop μ-loop
-loop-less c = let l = c .before .before .before .before .before .before .before .before .before .before .before .before .before .before .before .before .before .loop-test .taken in omega arith
+loop-less c = let l = c .before .before .before .loop-test .taken in omega arith
 
 loop-again : tie.Need-loop-again Inv-loop μ-loop
-loop-again c = passed-more (c .before .before .before .before .before .before .before .before .before .before .before .before .before .before .before .before .before .before .loop .inv) (c .before .before .before .before .before .before .before .before .before .before .before .before .before .before .before .before .before .loop-test .taken) (rw (← c .before .before .before .before .before .before .before .before .before .before .before .before .before .lift-classes .ensures, sym (c .before .before .before .before .before .before .before .before .agree .ensures) ∙ c .before .before .before .before .before .before .before .if1 .taken, sym (c .before .met .ensures) ∙ c .if2 .taken))
+loop-again c = passed-more (c .before .before .before .before .loop .inv) (c .before .before .before .loop-test .taken) (sym (c .before .each-has-one-lift .ensures) ∙ c .if1 .taken)
 
 returns : tie.Need-returns Inv-loop μ-loop
-returns c =
-    sym (upto-fail (c .before .before .before .before .before .before .before .before .before .before .before .before .before .before .before .before .before .before .loop .inv) (c .before .before .before .before .before .before .before .before .before .before .before .before .before .before .before .before .before .loop-test .taken)
-    (rw (← c .before .before .before .before .before .before .before .before .before .before .before .before .before .lift-classes .ensures, sym (c .before .before .before .before .before .before .before .before .agree .ensures) ∙ c .before .before .before .before .before .before .before .if1 .taken, sym (c .before .met .ensures) ∙ c .if2 .left)))
+returns c = sym (upto-fail (c .before .before .before .before .loop .inv) (c .before .before .before .loop-test .taken) (sym (c .before .each-has-one-lift .ensures) ∙ c .if1 .left))
 
 returns-2 : tie.Need-returns-2 Inv-loop μ-loop
-returns-2 c =
-    sym (upto-fail (c .before .before .before .before .before .before .before .before .before .before .before .loop .inv) (c .before .before .before .before .before .before .before .before .before .before .loop-test .taken)
-    (rw (← c .before .before .before .before .before .before .lift-classes .ensures, sym (c .before .agree .ensures) ∙ c .if1 .left)))
-
-returns-3 : tie.Need-returns-3 Inv-loop μ-loop
-returns-3 c = let a = c .before .before .args in sym (upto-done (c .before .loop .inv) (c .loop-test .left))
+returns-2 c = sym (upto-done (c .before .loop .inv) (c .loop-test .left))
 
 pub paths-even-spec : {M : Type 1} → statement M
 paths-even-spec =
@@ -61,14 +48,11 @@ paths-even-spec =
     Inv-loop
     μ-loop
     loop-holds
-    cast-c
-    lift-classes-requires
-    agree-requires
-    element-copy-out-met
-    met-requires
-    add-i
+    cast-each-has-one-lift
+    element-copy-out-each-has-one-lift
+    each-has-one-lift-requires
+    add-c
     loop-less
     loop-again
     returns
-    returns-2
-    returns-3)
+    returns-2)

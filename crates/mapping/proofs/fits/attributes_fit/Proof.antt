@@ -11,10 +11,10 @@ use Rattle.mapping.proofs.fits.attributes_fit.Statement.{statement}
 use Rattle.mapping.proofs.fits.attributes_fit.Tie as tie
 
 abbrev Inv-loop : tie.InvT-loop
-Inv-loop t s m node kind attributes a₀ a = Passed (attributeTest s t m) (s .attributes) (λ k. k) a
+Inv-loop t s f node kind attributes a₀ a = Passed (attributeTest s t f) (s .attributes) (λ k. k) a
 
 abbrev μ-loop : tie.MeasureT-loop
-μ-loop t s m node kind attributes a₀ a = s .attributes - a
+μ-loop t s f node kind attributes a₀ a = s .attributes - a
 
 tested : (c : tie.After-attribute-fits Inv-loop μ-loop) → attributeTest (c .before .before .before .before .before .before .before .before .before .before .before .before .before .args .t1) (c .before .before .before .before .before .before .before .before .before .before .before .before .before .args .t) (c .before .before .before .before .before .before .before .before .before .before .before .before .before .args .t3) (c .before .before .before .before .before .before .before .before .before .before .loop .a) ≡ c .attribute-fits .result
 tested c =

@@ -11,10 +11,10 @@ use Rattle.mapping.proofs.fits.edges_fit.Statement.{statement}
 use Rattle.mapping.proofs.fits.edges_fit.Tie as tie
 
 abbrev Inv-loop : tie.InvT-loop
-Inv-loop m g h edges e₀ e = Passed (edgeTest g h m) (g .edges) (λ k. k) e
+Inv-loop f g h edges e₀ e = Passed (edgeTest g h f) (g .edges) (λ k. k) e
 
 abbrev μ-loop : tie.MeasureT-loop
-μ-loop m g h edges e₀ e = g .edges - e
+μ-loop f g h edges e₀ e = g .edges - e
 
 source-low : (c : tie.After-image Inv-loop μ-loop) → c .before .before .before .wide .result < 16
 source-low c =

@@ -15,13 +15,13 @@ attributes-fit-requires : tie.Need-attributes-fit-requires
 attributes-fit-requires c κs = search needs
 
 returns : tie.Need-returns
-returns c = let a = c .before .before .before .before .before .before .before .args in rw (fits-by (a .s) (a .t) (a .m), sym (c .before .before .before .before .nodes-fit .ensures) ∙ c .before .before .before .if1 .taken, sym (c .before .before .edges-fit .ensures) ∙ c .before .if2 .taken) (c .attributes-fit .ensures)
+returns c = let a = c .before .before .before .before .before .before .before .args in rw (fits-by (a .s) (a .t) (a .f), sym (c .before .before .before .before .nodes-fit .ensures) ∙ c .before .before .before .if1 .taken, sym (c .before .before .edges-fit .ensures) ∙ c .before .if2 .taken) (c .attributes-fit .ensures)
 
 returns-2 : tie.Need-returns-2
-returns-2 c = let a = c .before .before .before .before .before .before .args in rw (fits-by (a .s) (a .t) (a .m), sym (c .before .before .before .nodes-fit .ensures) ∙ c .before .before .if1 .taken, sym (c .before .edges-fit .ensures) ∙ c .if2 .left)
+returns-2 c = let a = c .before .before .before .before .before .before .args in rw (fits-by (a .s) (a .t) (a .f), sym (c .before .before .before .nodes-fit .ensures) ∙ c .before .before .if1 .taken, sym (c .before .edges-fit .ensures) ∙ c .if2 .left)
 
 returns-3 : tie.Need-returns-3
-returns-3 c = let a = c .before .before .before .before .args in rw (fits-by (a .s) (a .t) (a .m), sym (c .before .nodes-fit .ensures) ∙ c .if1 .left)
+returns-3 c = let a = c .before .before .before .before .args in rw (fits-by (a .s) (a .t) (a .f), sym (c .before .nodes-fit .ensures) ∙ c .if1 .left)
 
 pub images-fit-spec : {M : Type 1} → statement M
 images-fit-spec =

@@ -15,10 +15,10 @@ use Rattle.mapping.proofs.images.path_images.Statement.{statement}
 use Rattle.mapping.proofs.images.path_images.Tie as tie
 
 abbrev Inv-loop : tie.InvT-loop
-Inv-loop s sp tp m count path₀ i₀ path i = (i ≤ sp .count) × ((t : Schema) → Imageable s t sp tp m → Filled 256 (imageNumber (schemaOf s) (schemaOf t) (mappingOf s m)) i path)
+Inv-loop s source-paths target-paths f count path₀ i₀ path i = (i ≤ source-paths .count) × ((t : Schema) → Imageable s t source-paths target-paths f → Filled 256 (imageNumber (schemaOf s) (schemaOf t) (mappingOf s f)) i path)
 
 abbrev μ-loop : tie.MeasureT-loop
-μ-loop s sp tp m count path₀ i₀ path i = sp .count - i
+μ-loop s source-paths target-paths f count path₀ i₀ path i = source-paths .count - i
 
 turn : (c : tie.Else1 Inv-loop μ-loop) → Turn (c .before .before .before .before .pre) (c .before .before .before .loop .path) (c .before .before .before .loop .i)
 turn c = longer-image (c .before .before .before .before .pre) (c .before .before .before .loop .inv .1 (c .before .before .before .before .args .t) (c .before .before .before .before .pre)) (c .if1 .left) (c .before .before .loop-test .taken)

@@ -15,10 +15,10 @@ use Rattle.mapping.proofs.images.sides_agree.Statement.{statement}
 use Rattle.mapping.proofs.images.sides_agree.Tie as tie
 
 abbrev Inv-loop : tie.InvT-loop
-Inv-loop path class s sp n q₀ q = Passed {A = Equation} (λ x. eqb (sideClass path class (numberOf (graphOf (s .graph)) (x .left))) (sideClass path class (numberOf (graphOf (s .graph)) (x .right)))) (s .equations) (equation s) q
+Inv-loop path class s source-paths n q₀ q = Passed {A = Equation} (λ x. eqb (sideClass path class (numberOf (graphOf (s .graph)) (x .left))) (sideClass path class (numberOf (graphOf (s .graph)) (x .right)))) (s .equations) (equation s) q
 
 abbrev μ-loop : tie.MeasureT-loop
-μ-loop path class s sp n q₀ q = s .equations - q
+μ-loop path class s source-paths n q₀ q = s .equations - q
 
 left-numbered : (c : tie.In-loop Inv-loop μ-loop) → Side (c .before .before .args .t1) (c .before .before .args .t2) (getD (c .before .before .args .t1 .left) (c .before .loop .q) noPath)
 left-numbered c = side (c .before .before .pre .0) (c .before .before .pre .1) (sides (c .before .before .args .t1) (c .before .before .pre .0) (c .before .loop .q) (c .loop-test .taken) .0)

@@ -12,10 +12,10 @@ use Rattle.mapping.proofs.lifts.edge_lifts.Statement.{statement}
 use Rattle.mapping.proofs.lifts.edge_lifts.Tie as tie
 
 abbrev Inv-loop : tie.InvT-loop
-Inv-loop s t sp tp m over g lifts₀ i₀ lifts i = (i ≤ 16 * t .graph .edges) × EdgeLifts s t sp m i lifts × (length lifts ≡ 512)
+Inv-loop s t source-paths target-paths f over g lifts₀ i₀ lifts i = (i ≤ 16 * t .graph .edges) × EdgeLifts s t source-paths f i lifts × (length lifts ≡ 512)
 
 abbrev μ-loop : tie.MeasureT-loop
-μ-loop s t sp tp m over g lifts₀ i₀ lifts i = 16 * t .graph .edges - i
+μ-loop s t source-paths target-paths f over g lifts₀ i₀ lifts i = 16 * t .graph .edges - i
 
 edge-in : (c : tie.Then3 Inv-loop μ-loop) → c .before .before .before .before .before .before .before .loop .i / 16 < c .before .before .before .before .before .before .before .before .before .before .before .before .before .before .args .t .graph .edges
 edge-in c = let l = c .before .before .before .before .before .if1 .taken in omega arith
@@ -23,10 +23,10 @@ edge-in c = let l = c .before .before .before .before .before .if1 .taken in ome
 edge : (c : tie.Then3 Inv-loop μ-loop) → EdgePath (c .before .before .before .before .before .before .before .before .before .before .before .before .before .before .pre .0) (c .before .before .before .before .before .before .before .before .before .before .before .before .before .before .pre .1) (c .before .before .before .before .before .before .before .before .before .image-classes .ensures) (c .before .before .before .before .before .before .before .loop .i % 16) (c .before .before .before .if2 .taken) (c .before .before .before .before .before .before .before .loop .i / 16) (edge-in c) (c .if3 .taken)
 edge c = edge-path (c .before .before .before .before .before .before .before .before .before .before .before .before .before .before .pre .0) (c .before .before .before .before .before .before .before .before .before .before .before .before .before .before .pre .1) (c .before .before .before .before .before .before .before .before .before .image-classes .ensures) (c .before .before .before .before .before .before .before .loop .i % 16) (c .before .before .before .if2 .taken) (c .before .before .before .before .before .before .before .loop .i / 16) (edge-in c) (c .if3 .taken)
 
-lifted : (c : tie.After-first-over Inv-loop μ-loop) → IsLift (c .before .before .before .before .before .before .before .before .before .before .before .before .before .before .before .before .before .before .before .before .before .before .before .before .before .args .s) (c .before .before .before .before .before .before .before .before .before .before .before .before .before .before .before .before .before .before .before .before .before .before .before .before .before .args .t) (c .before .before .before .before .before .before .before .before .before .before .before .before .before .before .before .before .before .before .before .before .before .before .before .before .before .args .t3) (c .before .before .before .before .before .before .before .before .before .before .before .before .before .before .before .before .before .before .before .before .before .before .before .before .before .args .t5) (c .before .before .before .before .before .before .before .before .before .before .before .before .before .before .before .before .before .before .loop .i % 16) (c .before .before .before .before .before .before .before .before .before .before .before .before .before .before .before .before .before .before .loop .i / 16) (c .first-over .result)
+lifted : (c : tie.After-first-over Inv-loop μ-loop) → IsLift (c .before .before .before .before .before .before .before .before .before .before .before .before .before .before .before .before .before .before .before .before .before .args .s) (c .before .before .before .before .before .before .before .before .before .before .before .before .before .before .before .before .before .before .before .before .before .args .t) (c .before .before .before .before .before .before .before .before .before .before .before .before .before .before .before .before .before .before .before .before .before .args .t3) (c .before .before .before .before .before .before .before .before .before .before .before .before .before .before .before .before .before .before .before .before .before .args .t5) (c .before .before .before .before .before .before .before .before .before .before .before .before .before .before .loop .i % 16) (c .before .before .before .before .before .before .before .before .before .before .before .before .before .before .loop .i / 16) (c .first-over .result)
 lifted c =
-    let n : c .before .before .before .before .before .before .wide .result ≡ getD (c .before .before .before .before .before .before .before .before .before .before .before .before .before .before .before .before .before .before .before .before .before .before .before .before .before .args .t5 .node) (c .before .before .before .before .before .before .before .before .before .before .before .before .before .before .before .before .before .before .loop .i % 16) 0 = c .before .before .before .before .before .before .wide .ensures in
-    rw (c .first-over .ensures, c .before .before .before .before .before .edge-class .ensures, n) (lift-number (c .before .before .before .before .before .before .before .before .before .before .before .before .before .before .before .before .before .before .before .before .before .before .before .before .before .pre .0) (c .before .before .before .before .before .before .before .before .before .before .before .before .before .before .before .before .before .before .before .before .before .before .before .before .before .pre .1) (c .before .before .before .before .before .before .before .before .before .before .before .before .before .before .before .before .before .before .before .before .image-classes .ensures) (c .before .before .before .before .before .before .before .before .before .before .before .before .before .before .before .before .before .before .loop .i % 16) (c .before .before .before .before .before .before .before .before .before .before .before .before .before .before .if2 .taken) (c .before .before .before .before .before .before .before .before .before .before .before .before .before .before .before .before .before .before .loop .i / 16) (edge-in (c .before .before .before .before .before .before .before .before .before .before .before)) (c .before .before .before .before .before .before .before .before .before .before .before .if3 .taken))
+    let n : c .before .before .before .before .before .before .wide .result ≡ getD (c .before .before .before .before .before .before .before .before .before .before .before .before .before .before .before .before .before .before .before .before .before .args .t5 .node) (c .before .before .before .before .before .before .before .before .before .before .before .before .before .before .loop .i % 16) 0 = c .before .before .before .before .before .before .wide .ensures in
+    rw (c .first-over .ensures, c .before .before .before .before .before .edge-class .ensures, n) (lift-number (c .before .before .before .before .before .before .before .before .before .before .before .before .before .before .before .before .before .before .before .before .before .pre .0) (c .before .before .before .before .before .before .before .before .before .before .before .before .before .before .before .before .before .before .before .before .before .pre .1) (c .before .before .before .before .before .before .before .before .before .before .before .before .before .before .before .before .image-classes .ensures) (c .before .before .before .before .before .before .before .before .before .before .before .before .before .before .loop .i % 16) (c .before .before .before .before .before .before .before .before .before .before .if2 .taken) (c .before .before .before .before .before .before .before .before .before .before .before .before .before .before .loop .i / 16) (edge-in (c .before .before .before .before .before .before .before)) (c .before .before .before .before .before .before .before .if3 .taken))
 
 image-classes-requires : tie.Need-image-classes-requires Inv-loop μ-loop
 image-classes-requires c κs = search needs
@@ -51,39 +51,39 @@ wide-requires c κs = search needs
 
 edge-class-requires : tie.Need-edge-class-requires Inv-loop μ-loop
 edge-class-requires c κs =
-    let f = edge (c .before .before .before .before .before) in
-    let n : c .wide .result ≡ getD (c .before .before .before .before .before .before .before .before .before .before .before .before .before .before .before .before .before .before .before .args .t5 .node) (c .before .before .before .before .before .before .before .before .before .before .before .before .loop .i % 16) 0 = c .wide .ensures in
+    let f = edge (c .before) in
+    let n : c .wide .result ≡ getD (c .before .before .before .before .before .before .before .before .before .before .before .before .before .before .before .args .t5 .node) (c .before .before .before .before .before .before .before .before .loop .i % 16) 0 = c .wide .ensures in
     rw n (f .node-low, f .edge-low, f .number-low)
 
 slice-aggregate-first-over : tie.Need-slice-aggregate-first-over Inv-loop μ-loop
-slice-aggregate-first-over c = sym (c .before .before .before .before .before .before .before .before .before .before .before .before .before .before .before .before .before .before .before .image-classes .ensures .long)
+slice-aggregate-first-over c = sym (c .before .before .before .before .before .before .before .before .before .before .before .before .before .before .before .image-classes .ensures .long)
 
 cast-first-over : tie.Need-cast-first-over Inv-loop μ-loop
 cast-first-over c = omega arith
 
 first-over-requires : tie.Need-first-over-requires Inv-loop μ-loop
 first-over-requires c κs =
-    let t = c .before .before .before .before .before .before .before .before .before .before .before .before .before .before .before .before .before .before .before .before .before .before .before .before .pre .0 .source-paths .table in
+    let t = c .before .before .before .before .before .before .before .before .before .before .before .before .before .before .before .before .before .before .before .before .pre .0 .source-paths .table in
     let a = t .few in
-    (omega (arith, t .columns .start .long), omega (arith, c .before .before .before .before .before .before .before .before .before .before .before .before .before .before .before .before .before .before .before .image-classes .ensures .long))
+    (omega (arith, t .columns .start .long), omega (arith, c .before .before .before .before .before .before .before .before .before .before .before .before .before .before .before .image-classes .ensures .long))
 
 cast-lifts : tie.Need-cast-lifts Inv-loop μ-loop
-cast-lifts c = let b = lifted c .below in let f = c .before .before .before .before .before .before .before .before .before .before .before .before .before .before .before .before .before .before .before .before .before .before .before .before .before .pre .0 .source-paths .table .few in omega arith
+cast-lifts c = let b = lifted c .below in let f = c .before .before .before .before .before .before .before .before .before .before .before .before .before .before .before .before .before .before .before .before .before .pre .0 .source-paths .table .few in omega arith
 
 array-write-lifts : tie.Need-array-write-lifts Inv-loop μ-loop
-array-write-lifts c = let f = c .before .before .before .before .before .before .before .before .before .before .before .before .before .before .before .before .before .before .before .before .before .before .before .before .before .pre .0 .target .limits .edges in let l = c .before .before .before .before .before .before .before .before .before .before .before .before .before .before .before .before .if1 .taken in omega arith
+array-write-lifts c = let f = c .before .before .before .before .before .before .before .before .before .before .before .before .before .before .before .before .before .before .before .before .before .pre .0 .target .limits .edges in let l = c .before .before .before .before .before .before .before .before .before .before .before .before .if1 .taken in omega arith
 
 loop-less : tie.Need-loop-less Inv-loop μ-loop
-loop-less c = let l = c .before .before .before .before .before .before .before .before .before .before .before .before .before .before .before .before .if1 .taken in omega arith
+loop-less c = let l = c .before .before .before .before .before .before .before .before .before .before .before .before .if1 .taken in omega arith
 
 loop-again : tie.Need-loop-again Inv-loop μ-loop
 loop-again c =
-    let v = c .before .before .before .before .before .before .before .before .before .before .before .before .before .before .before .before .before .before .loop in
-    let l = c .before .before .before .before .before .before .before .before .before .before .before .before .before .before .before .before .if1 .taken in
-    let f = c .before .before .before .before .before .before .before .before .before .before .before .before .before .before .before .before .before .before .before .before .before .before .before .before .before .pre .0 .target .limits .edges in
+    let v = c .before .before .before .before .before .before .before .before .before .before .before .before .before .before .loop in
+    let l = c .before .before .before .before .before .before .before .before .before .before .before .before .if1 .taken in
+    let f = c .before .before .before .before .before .before .before .before .before .before .before .before .before .before .before .before .before .before .before .before .before .pre .0 .target .limits .edges in
     let i : v .i < length (v .lifts) = omega (arith, v .inv .2) in (
       omega arith,
-      record { each = filled (λ k x. k % 16 < c .before .before .before .before .before .before .before .before .before .before .before .before .before .before .before .before .before .before .before .before .before .before .before .before .before .args .s .graph .nodes → getD (c .before .before .before .before .before .before .before .before .before .before .before .before .before .before .before .before .before .before .before .before .before .before .before .before .before .args .t .graph .source) (k / 16) 0 ≡ getD (c .before .before .before .before .before .before .before .before .before .before .before .before .before .before .before .before .before .before .before .before .before .before .before .before .before .args .t5 .node) (k % 16) 0 → IsLift (c .before .before .before .before .before .before .before .before .before .before .before .before .before .before .before .before .before .before .before .before .before .before .before .before .before .args .s) (c .before .before .before .before .before .before .before .before .before .before .before .before .before .before .before .before .before .before .before .before .before .before .before .before .before .args .t) (c .before .before .before .before .before .before .before .before .before .before .before .before .before .before .before .before .before .before .before .before .before .before .before .before .before .args .t3) (c .before .before .before .before .before .before .before .before .before .before .before .before .before .before .before .before .before .before .before .before .before .before .before .before .before .args .t5) (k % 16) (k / 16) x) 0 (v .lifts) (v .i) i (λ _ _. lifted c) (v .inv .1 .each) },
+      record { each = filled (λ k x. k % 16 < c .before .before .before .before .before .before .before .before .before .before .before .before .before .before .before .before .before .before .before .before .before .args .s .graph .nodes → getD (c .before .before .before .before .before .before .before .before .before .before .before .before .before .before .before .before .before .before .before .before .before .args .t .graph .source) (k / 16) 0 ≡ getD (c .before .before .before .before .before .before .before .before .before .before .before .before .before .before .before .before .before .before .before .before .before .args .t5 .node) (k % 16) 0 → IsLift (c .before .before .before .before .before .before .before .before .before .before .before .before .before .before .before .before .before .before .before .before .before .args .s) (c .before .before .before .before .before .before .before .before .before .before .before .before .before .before .before .before .before .before .before .before .before .args .t) (c .before .before .before .before .before .before .before .before .before .before .before .before .before .before .before .before .before .before .before .before .before .args .t3) (c .before .before .before .before .before .before .before .before .before .before .before .before .before .before .before .before .before .before .before .before .before .args .t5) (k % 16) (k / 16) x) 0 (v .lifts) (v .i) i (λ _ _. lifted c) (v .inv .1 .each) },
       length-set (v .lifts) (v .i) _ ∙ v .inv .2,
     )
 

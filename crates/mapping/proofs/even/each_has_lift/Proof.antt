@@ -1,4 +1,4 @@
--- `mapping::even::met` meets its contract.
+-- `mapping::even::each_has_lift` meets its contract.
 use Prim.Native.Nat.{_-_}
 use mathlib.Core.Path.{sym}
 use mathlib.Core.Bool.{true, false}
@@ -6,14 +6,14 @@ use native.Mathlib.Omega.{arith}
 use borrow.Author.Needs.{needs}
 use borrow.Author.Tests.{eq-eqb, ne-eqb}
 use Rattle.meaning.proofs.Tabulate.{Passed, passed-start, passed-more}
-use Rattle.mapping.specs.Even.{metAt}
+use Rattle.mapping.specs.Even.{hasLiftAt}
 use Rattle.mapping.proofs.Viewing.{upto-fail, upto-done}
-use Rattle.mapping.proofs.Lifting.{met-other, met-is}
-use Rattle.mapping.proofs.even.met.Statement.{statement}
-use Rattle.mapping.proofs.even.met.Tie as tie
+use Rattle.mapping.proofs.Lifting.{has-lift-other, has-lift-is}
+use Rattle.mapping.proofs.even.each_has_lift.Statement.{statement}
+use Rattle.mapping.proofs.even.each_has_lift.Tie as tie
 
 abbrev Inv-loop : tie.InvT-loop
-Inv-loop start class lifts count d j₀ j = Passed (metAt start class lifts d) count (λ k. k) j
+Inv-loop start class lifts count d j₀ j = Passed (hasLiftAt start class lifts d) count (λ k. k) j
 
 abbrev μ-loop : tie.MeasureT-loop
 μ-loop start class lifts count d j₀ j = count - j
@@ -44,7 +44,7 @@ returns c =
     let a = c .before .before .before .before .before .before .before .before .args in
     let v = c .before .before .before .before .before .before .before .loop in
     sym (upto-fail (v .inv) (c .before .before .before .before .before .before .loop-test .taken)
-    (met-is (a .start .now) (a .class .now) (a .lifts .now) (a .d) (v .j) true (c .before .before .before .before .if1 .taken) (rw (← c .before .before .index .ensures .0) (eq-eqb _ _ (c .if2 .taken)))))
+    (has-lift-is (a .start .now) (a .class .now) (a .lifts .now) (a .d) (v .j) true (c .before .before .before .before .if1 .taken) (rw (← c .before .before .index .ensures .0) (eq-eqb _ _ (c .if2 .taken)))))
 
 loop-less : tie.Need-loop-less Inv-loop μ-loop
 loop-less c = let l = c .before .before .before .before .before .before .loop-test .taken in omega arith
@@ -54,7 +54,7 @@ loop-again c =
     let a = c .before .before .before .before .before .before .before .before .args in
     let v = c .before .before .before .before .before .before .before .loop in
     passed-more (v .inv) (c .before .before .before .before .before .before .loop-test .taken)
-    (met-is (a .start .now) (a .class .now) (a .lifts .now) (a .d) (v .j) false (c .before .before .before .before .if1 .taken) (rw (← c .before .before .index .ensures .0) (ne-eqb _ _ (c .if2 .left))))
+    (has-lift-is (a .start .now) (a .class .now) (a .lifts .now) (a .d) (v .j) false (c .before .before .before .before .if1 .taken) (rw (← c .before .before .index .ensures .0) (ne-eqb _ _ (c .if2 .left))))
 
 loop-less-2 : tie.Need-loop-less-2 Inv-loop μ-loop
 loop-less-2 c = let l = c .before .before .loop-test .taken in omega arith
@@ -63,14 +63,14 @@ loop-again-2 : tie.Need-loop-again-2 Inv-loop μ-loop
 loop-again-2 c =
     let a = c .before .before .before .before .args in
     let v = c .before .before .before .loop in
-    passed-more (v .inv) (c .before .before .loop-test .taken) (met-other (a .start .now) (a .class .now) (a .lifts .now) (a .d) (v .j) (c .if1 .left))
+    passed-more (v .inv) (c .before .before .loop-test .taken) (has-lift-other (a .start .now) (a .class .now) (a .lifts .now) (a .d) (v .j) (c .if1 .left))
 
 returns-2 : tie.Need-returns-2 Inv-loop μ-loop
 returns-2 c =
     sym (upto-done (c .before .loop .inv) (c .loop-test .left))
 
-pub met-spec : {M : Type 1} → statement M
-met-spec =
+pub each-has-lift-spec : {M : Type 1} → statement M
+each-has-lift-spec =
     tie.close
     (tie.spec
     Inv-loop

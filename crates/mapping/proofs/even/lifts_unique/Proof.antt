@@ -1,4 +1,4 @@
--- `mapping::even::agree` meets its contract.
+-- `mapping::even::lifts_unique` meets its contract.
 use Prim.Native.Nat.{_-_}
 use mathlib.Core.Path.{sym}
 use mathlib.Core.Bool.{true, false}
@@ -6,14 +6,14 @@ use native.Mathlib.Omega.{arith}
 use borrow.Author.Needs.{needs}
 use borrow.Author.Tests.{eq-eqb, ne-eqb}
 use Rattle.meaning.proofs.Tabulate.{Passed, passed-start, passed-more}
-use Rattle.mapping.specs.Even.{agreesAt}
+use Rattle.mapping.specs.Even.{uniqueAt}
 use Rattle.mapping.proofs.Viewing.{upto-fail, upto-done}
-use Rattle.mapping.proofs.Lifting.{agrees-other, agrees-is}
-use Rattle.mapping.proofs.even.agree.Statement.{statement}
-use Rattle.mapping.proofs.even.agree.Tie as tie
+use Rattle.mapping.proofs.Lifting.{unique-other, unique-is}
+use Rattle.mapping.proofs.even.lifts_unique.Statement.{statement}
+use Rattle.mapping.proofs.even.lifts_unique.Tie as tie
 
 abbrev Inv-loop : tie.InvT-loop
-Inv-loop start class over lifts count c i₀ i = Passed (agreesAt start class over lifts c) count (λ k. k) i
+Inv-loop start class over lifts count c i₀ i = Passed (uniqueAt start class over lifts c) count (λ k. k) i
 
 abbrev μ-loop : tie.MeasureT-loop
 μ-loop start class over lifts count c i₀ i = count - i
@@ -39,18 +39,18 @@ mul-if2 c = let h = c .index .ensures .1 in omega arith
 element-copy-out-if2 : tie.Need-element-copy-out-if2 Inv-loop μ-loop
 element-copy-out-if2 c = c .index .ensures .1
 
-element-copy-out-word : tie.Need-element-copy-out-word Inv-loop μ-loop
-element-copy-out-word c = let f = c .before .before .before .before .before .before .before .pre in let l = c .before .before .before .before .before .loop-test .taken in omega arith
+element-copy-out-as-u16 : tie.Need-element-copy-out-as-u16 Inv-loop μ-loop
+element-copy-out-as-u16 c = let f = c .before .before .before .before .before .before .before .pre in let l = c .before .before .before .before .before .loop-test .taken in omega arith
 
-word-requires : tie.Need-word-requires Inv-loop μ-loop
-word-requires c κs = search needs
+as-u16-requires : tie.Need-as-u16-requires Inv-loop μ-loop
+as-u16-requires c κs = search needs
 
 returns : tie.Need-returns Inv-loop μ-loop
 returns c =
     let a = c .before .before .before .before .before .before .before .before .before .before .args in
     let v = c .before .before .before .before .before .before .before .before .before .loop in
     sym (upto-fail (v .inv) (c .before .before .before .before .before .before .before .before .loop-test .taken)
-    (agrees-is (a .start .now) (a .class .now) (a .over .now) (a .lifts .now) (a .c) (v .i) false (c .before .before .before .before .before .before .if1 .taken) (rw (← c .before .before .before .before .index .ensures .0, ← c .before .word .ensures .0) (ne-eqb _ _ (c .if2 .taken)))))
+    (unique-is (a .start .now) (a .class .now) (a .over .now) (a .lifts .now) (a .c) (v .i) false (c .before .before .before .before .before .before .if1 .taken) (rw (← c .before .before .before .before .index .ensures .0, ← c .before .as-u16 .ensures .0) (ne-eqb _ _ (c .if2 .taken)))))
 
 loop-less : tie.Need-loop-less Inv-loop μ-loop
 loop-less c = let l = c .before .before .before .before .before .before .before .before .loop-test .taken in omega arith
@@ -60,7 +60,7 @@ loop-again c =
     let a = c .before .before .before .before .before .before .before .before .before .before .args in
     let v = c .before .before .before .before .before .before .before .before .before .loop in
     passed-more (v .inv) (c .before .before .before .before .before .before .before .before .loop-test .taken)
-    (agrees-is (a .start .now) (a .class .now) (a .over .now) (a .lifts .now) (a .c) (v .i) true (c .before .before .before .before .before .before .if1 .taken) (rw (← c .before .before .before .before .index .ensures .0, ← c .before .word .ensures .0) (eq-eqb _ _ (c .if2 .left))))
+    (unique-is (a .start .now) (a .class .now) (a .over .now) (a .lifts .now) (a .c) (v .i) true (c .before .before .before .before .before .before .if1 .taken) (rw (← c .before .before .before .before .index .ensures .0, ← c .before .as-u16 .ensures .0) (eq-eqb _ _ (c .if2 .left))))
 
 loop-less-2 : tie.Need-loop-less-2 Inv-loop μ-loop
 loop-less-2 c = let l = c .before .before .loop-test .taken in omega arith
@@ -69,14 +69,14 @@ loop-again-2 : tie.Need-loop-again-2 Inv-loop μ-loop
 loop-again-2 c =
     let a = c .before .before .before .before .args in
     let v = c .before .before .before .loop in
-    passed-more (v .inv) (c .before .before .loop-test .taken) (agrees-other (a .start .now) (a .class .now) (a .over .now) (a .lifts .now) (a .c) (v .i) (c .if1 .left))
+    passed-more (v .inv) (c .before .before .loop-test .taken) (unique-other (a .start .now) (a .class .now) (a .over .now) (a .lifts .now) (a .c) (v .i) (c .if1 .left))
 
 returns-2 : tie.Need-returns-2 Inv-loop μ-loop
 returns-2 c =
     sym (upto-done (c .before .loop .inv) (c .loop-test .left))
 
-pub agree-spec : {M : Type 1} → statement M
-agree-spec =
+pub lifts-unique-spec : {M : Type 1} → statement M
+lifts-unique-spec =
     tie.close
     (tie.spec
     Inv-loop
@@ -88,8 +88,8 @@ agree-spec =
     index-requires
     mul-if2
     element-copy-out-if2
-    element-copy-out-word
-    word-requires
+    element-copy-out-as-u16
+    as-u16-requires
     returns
     loop-less
     loop-again
