@@ -12,3 +12,4 @@ pub mod Judging
 pub mod Grouping
 pub mod Turning
 pub mod Demand3
+pub mod Encoding

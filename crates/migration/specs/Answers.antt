@@ -1,9 +1,10 @@
 -- What an answer says in the terms of document 01: the number and the values of each case of an enum.
 use Prim.Native.Nat.{ℕ, _+_, _*_}
+use mathlib.Core.Path.{_≡_}
 use mathlib.Core.Bool.{Bool, true, false, cond}
 use mathlib.Core.List.{List}
 use lib.Dec.{eqb}
-use Rattle.meaning.specs.Calls.{Outcome, refused, accepted, _>>=_, Lent}
+use Rattle.meaning.specs.Calls.{Outcome, refused, accepted, _>>=_, checkPushed, checkRaw, pushedToRaw, rawToPushed, Lent, inTray}
 use Rattle.migration.specs.declared.Refusal.{Refusal}
 use Rattle.migration.specs.declared.Verdict.{Verdict}
 use Rattle.migration.specs.declared.Verdict.the-variants as verdict
@@ -28,6 +29,22 @@ writtenOf (written.Refused r) = refused (r .number) (r .place)
 -- an answer and the tray that it leaves
 abbrev pub lentOf : Written → List ℕ → Lent
 lentOf r tray = record { answer = writtenOf r; tray = tray }
+
+-- ---- what the checkers and the turnings promise, of the sheets s, t, f, run, book and list
+
+module _ (s t f run book list : List ℕ) where
+  abbrev pub PushedChecked : Verdict → Type 0
+  PushedChecked r = verdictOf r ≡ checkPushed s t f run book list
+
+  abbrev pub RawChecked : Verdict → Type 0
+  RawChecked r = verdictOf r ≡ checkRaw s t f run book list
+
+  -- of a tray: the answer, and the tray that it leaves
+  abbrev pub TurnedToRaw : List ℕ → Written × List ℕ → Type 0
+  TurnedToRaw tray r = lentOf (r .0) (r .1) ≡ inTray tray (pushedToRaw s t f run book list)
+
+  abbrev pub TurnedToPushed : List ℕ → Written × List ℕ → Type 0
+  TurnedToPushed tray r = lentOf (r .0) (r .1) ≡ inTray tray (rawToPushed s t f run book list)
 
 -- ---- for C: an answer as one number
 

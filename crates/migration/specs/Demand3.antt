@@ -1,14 +1,14 @@
 -- Demand 3, of the answers of the four public calls, bytes in and bytes out: whatever answers meet the calls' contracts, each clause holds of them.
--- The provisos and what each clause says are those of `agreement`. Lists here are any lists of numbers; what is lent is among them.
+-- The provisos and what each clause says are those of `agreement`.
+-- Answers are asked of all lists of numbers: of lists that are no bytes, which nobody can lend, take those of the meanings.
 use Prim.Native.Nat.{ℕ}
-use mathlib.Core.Path.{_≡_}
 use mathlib.Core.List.{List}
 use Rattle.meaning.specs.Views.{schemaOf, instanceOf}
-use Rattle.meaning.specs.Calls.{Outcome, checkPushed, checkRaw, pushedToRaw, rawToPushed, inTray}
+use Rattle.meaning.specs.Calls.{Outcome}
 use Rattle.agreement.specs.Demand3.{Refuses, RefusesTray, Provided, pushedSide, rawSide, Turning, Checks, Takes, Turns, ComesFromOne, TurnsBack, MeetsSame}
 use Rattle.migration.specs.declared.Verdict.{Verdict}
 use Rattle.migration.specs.declared.Written.{Written}
-use Rattle.migration.specs.Answers.{verdictOf, lentOf}
+use Rattle.migration.specs.Answers.{verdictOf, lentOf, PushedChecked, RawChecked, TurnedToRaw, TurnedToPushed}
 
 -- of the sheets s, t, f, run, book and list
 abbrev pub Checker : Type 0
@@ -31,10 +31,10 @@ turned turner s t f i j tray k = lentOf (turner s t f i j k tray .0) (turner s t
 
 -- the contracts of `check_pushed`, `check_raw`, `pushed_to_raw` and `raw_to_pushed`
 pub record MeetsContracts (c : Calls) : Type 0 where
-  pub check-pushed : (s t f i j k : List ℕ) → verdictOf (c .check-pushed s t f i j k) ≡ checkPushed s t f i j k
-  pub check-raw : (s t f i j k : List ℕ) → verdictOf (c .check-raw s t f i j k) ≡ checkRaw s t f i j k
-  pub pushed-to-raw : (s t f i j k tray : List ℕ) → turned (c .pushed-to-raw) s t f i j tray k ≡ inTray tray (pushedToRaw s t f i j k)
-  pub raw-to-pushed : (s t f i j k tray : List ℕ) → turned (c .raw-to-pushed) s t f i j tray k ≡ inTray tray (rawToPushed s t f i j k)
+  pub check-pushed : (s t f i j k : List ℕ) → PushedChecked s t f i j k (c .check-pushed s t f i j k)
+  pub check-raw : (s t f i j k : List ℕ) → RawChecked s t f i j k (c .check-raw s t f i j k)
+  pub pushed-to-raw : (s t f i j k tray : List ℕ) → TurnedToRaw s t f i j k tray (c .pushed-to-raw s t f i j k tray)
+  pub raw-to-pushed : (s t f i j k tray : List ℕ) → TurnedToPushed s t f i j k tray (c .raw-to-pushed s t f i j k tray)
 
 -- ---- the clauses, under the provisos
 

@@ -7,3 +7,4 @@ pub mod Matched
 pub mod Printed
 pub mod Turnable
 pub mod Demand3
+pub mod Encoding

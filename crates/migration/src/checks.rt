@@ -11,8 +11,8 @@ use schema::equal;
 use schema::judge_path;
 use schema::judge_schema;
 ghost use mathlib.Core.Path.{_≡_};
-ghost use Rattle.meaning.specs.Calls.{checkSchema, checkMapping, checkInstance, samePath, checkPushed, checkRaw};
-ghost use Rattle.migration.specs.Answers.{outcomeOf, verdictOf, equalityOf};
+ghost use Rattle.meaning.specs.Calls.{checkSchema, checkMapping, checkInstance, samePath};
+ghost use Rattle.migration.specs.Answers.{outcomeOf, verdictOf, equalityOf, PushedChecked, RawChecked};
 
 fn verdict(refusal: Refusal) -> Verdict
     ensures { λ r. ⌜ verdictOf r ≡ outcomeOf refusal tt ⌝ }
@@ -85,7 +85,7 @@ pub fn same_path(s: &[u8], p: &[u8], q: &[u8]) -> Equality
 // Whether list is a matching of the pushed side: from Sigma of the instance run of s along the mapping f from s to t to the instance book of t.
 // Refuses as check_raw does.
 pub fn check_pushed(s: &[u8], t: &[u8], f: &[u8], run: &[u8], book: &[u8], list: &[u8]) -> Verdict
-    ensures { λ r. ⌜ verdictOf r ≡ checkPushed (now (s .entry)) (now (t .entry)) (now (f .entry)) (now (run .entry)) (now (book .entry)) (now (list .entry)) ⌝ }
+    ensures { λ r. ⌜ PushedChecked (now (s .entry)) (now (t .entry)) (now (f .entry)) (now (run .entry)) (now (book .entry)) (now (list .entry)) r ⌝ }
 {
     let mut partners = [0u32; Instance::ROWS];
     let matched = match_side(Side::Pushed, s, t, f, run, book, list, &mut partners);
@@ -97,7 +97,7 @@ pub fn check_pushed(s: &[u8], t: &[u8], f: &[u8], run: &[u8], book: &[u8], list:
 // Refuses with 1 to 6 at the places of s and t, with 1, 2, 7 and 8 at that of f, with 1, 2, 3, 9, 10 and 11 at those of run and book, with 12 and
 // 15 at place 0, and with 1, 2 and 17 at that of list.
 pub fn check_raw(s: &[u8], t: &[u8], f: &[u8], run: &[u8], book: &[u8], list: &[u8]) -> Verdict
-    ensures { λ r. ⌜ verdictOf r ≡ checkRaw (now (s .entry)) (now (t .entry)) (now (f .entry)) (now (run .entry)) (now (book .entry)) (now (list .entry)) ⌝ }
+    ensures { λ r. ⌜ RawChecked (now (s .entry)) (now (t .entry)) (now (f .entry)) (now (run .entry)) (now (book .entry)) (now (list .entry)) r ⌝ }
 {
     let mut partners = [0u32; Instance::ROWS];
     let matched = match_side(Side::Raw, s, t, f, run, book, list, &mut partners);

@@ -15,10 +15,10 @@ ghost use mathlib.Core.Path.{_≡_};
 ghost use Prim.Native.Nat.{_≤_};
 ghost use lib.ListN.{length};
 ghost use Rattle.meaning.specs.Formats.{matchingSheet};
-ghost use Rattle.meaning.specs.Calls.{pushedToRaw, rawToPushed, written, inTray};
+ghost use Rattle.meaning.specs.Calls.{written, inTray};
 ghost use Rattle.instance.specs.Decoded.{firstOf};
 ghost use Rattle.matching.specs.Compared.{partnersOf};
-ghost use Rattle.migration.specs.Answers.{outcomeOf, lentOf};
+ghost use Rattle.migration.specs.Answers.{outcomeOf, lentOf, TurnedToRaw, TurnedToPushed};
 ghost use Rattle.migration.specs.Turnable.{turnableOf, turnedList, ReadyToTurn};
 
 // Turns a list of partners of one side into one of the other side.
@@ -80,7 +80,7 @@ pub fn pushed_to_raw(
     list: &[u8],
     tray: &mut [u8],
 ) -> Written
-    ensures { λ r. ⌜ lentOf r (now (tray .exit)) ≡ inTray (now (tray .entry)) (pushedToRaw (now (s .entry)) (now (t .entry)) (now (f .entry)) (now (run .entry)) (now (book .entry)) (now (list .entry))) ⌝ }
+    ensures { λ r. ⌜ TurnedToRaw (now (s .entry)) (now (t .entry)) (now (f .entry)) (now (run .entry)) (now (book .entry)) (now (list .entry)) (now (tray .entry)) (r, now (tray .exit)) ⌝ }
 {
     let mut partners = [0u32; Instance::ROWS];
     let matched = match_side(Side::Pushed, s, t, f, run, book, list, &mut partners);
@@ -98,7 +98,7 @@ pub fn raw_to_pushed(
     list: &[u8],
     tray: &mut [u8],
 ) -> Written
-    ensures { λ r. ⌜ lentOf r (now (tray .exit)) ≡ inTray (now (tray .entry)) (rawToPushed (now (s .entry)) (now (t .entry)) (now (f .entry)) (now (run .entry)) (now (book .entry)) (now (list .entry))) ⌝ }
+    ensures { λ r. ⌜ TurnedToPushed (now (s .entry)) (now (t .entry)) (now (f .entry)) (now (run .entry)) (now (book .entry)) (now (list .entry)) (now (tray .entry)) (r, now (tray .exit)) ⌝ }
 {
     let mut partners = [0u32; Instance::ROWS];
     let matched = match_side(Side::Raw, s, t, f, run, book, list, &mut partners);

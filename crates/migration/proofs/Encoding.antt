@@ -1,0 +1,142 @@
+-- The number that an export gives, taken apart, is the call's outcome: refusals are numbered below 256, and results are below 2^32.
+use Prim.Native.Nat.{ℕ, _+_, _*_, _/_, _%_, _<_, _≤_}
+use mathlib.Core.Path.{_≡_, refl}
+use mathlib.Core.Bool.{Bool, true, false, cond, _&&_}
+use mathlib.Core.List.{List}
+use native.Mathlib.Omega.{arith}
+use lib.ListN.{length}
+use lib.Dec.{ltb}
+use borrow.Author.Tests.{ltb-true, lt-ltb, le-ltb}
+use Rattle.theory.specs.Matching.{partner, partners}
+use Rattle.theory.specs.Transposition.{raw, pushed}
+use Rattle.theory.proofs.Matching.{partners-length}
+use Rattle.meaning.specs.Lists.{all}
+use Rattle.meaning.specs.Schema.{Schema}
+use Rattle.meaning.specs.Sheet.{sound}
+use Rattle.meaning.specs.Formats.{Instance, maxInstanceBytes, instanceSheet, matchingSheet}
+use Rattle.meaning.specs.Views.{schemaOf, mappingOf, instanceOf}
+use Rattle.meaning.specs.Judge.{judgeSchema}
+use Rattle.meaning.specs.Calls.{Outcome, refused, accepted, _>>=_, Migrated, deltaTables, sigmaTables, piTables, sheetOf, Sides, sides, judgePushed, judgeRaw, pushedToRaw, rawToPushed, inTray}
+use Rattle.meaning.proofs.Lists.{all-of}
+use Rattle.meaning.proofs.Tabulate.{and-both}
+use Rattle.meaning.proofs.Facts.{schema-facts}
+use Rattle.meaning.proofs.Written.{instance-bytes, matching-sheet-length}
+use Rattle.agreement.proofs.Tests.{Refusal, Tests, accepted-same, Decides, decides-giving, refused-in}
+use Rattle.agreement.proofs.Outcomes.{rawSheet, pushedSheet, checkSchema-decided, checkMapping-decided, checkInstance-decided, samePath-decided, checkPushed-decided, checkRaw-decided, delta-answer, sigma-answer, pi-answer, pushedToRaw-answer, rawToPushed-answer, accepted-tray}
+use Rattle.agreement.proofs.Accepted.{bind-accepted, SidesSound, sides-accepted}
+use Rattle.agreement.proofs.Tables.{rows-sum}
+use Rattle.agreement.proofs.Valid.{ValidInstance, mapping-valid, instance-valid}
+use Rattle.agreement.proofs.Evenness.{even-iff}
+use Rattle.agreement.proofs.Sigma.{sigma-valid}
+use Rattle.agreement.proofs.Statements.{Lendable, delta-agrees, sigma-agrees, pi-agrees}
+use Rattle.migration.specs.Encoding.{Says, ExportsSay, maxMatchingBytes, Within, ResultsWithin}
+
+-- ---- byte lengths
+
+module _ {o : Outcome Migrated} where
+  sheet-within : ((M : Migrated) → o ≡ accepted M → length (instanceSheet (M .tables)) ≤ maxInstanceBytes) → Within maxInstanceBytes (sheetOf o)
+  sheet-within h bytes e =
+      let a = bind-accepted o (λ M. accepted (instanceSheet (M .tables))) e in
+      let k : instanceSheet (a .0 .tables) ≡ bytes = accepted-same (a .2) in
+      rw k at (h (a .0) (a .1))
+
+lendable-within : {S : Schema} {I : Instance} (s : List ℕ) → judgeSchema s ≡ sound S → Lendable S I → length (instanceSheet I) ≤ maxInstanceBytes
+lendable-within {S} {I} s e l = instance-bytes S (schema-facts s e) (instanceSheet I) (l .lent-again)
+
+partners-within : {S : Schema} {A : Instance} → ValidInstance S A → (m : ℕ → ℕ → ℕ) → length (matchingSheet (partners (schemaOf S) (instanceOf A) m)) ≤ maxMatchingBytes
+partners-within {S} {A} v m =
+    let l = partners (schemaOf S) (instanceOf A) m in
+    bound (length l) (length (matchingSheet l)) (matching-sheet-length l) (omega (arith, partners-length (schemaOf S) (instanceOf A) m, rows-sum S A (v .shaped .tables), v .few-rows))
+  where
+    bound : (n b : ℕ) → b ≡ (9 * n + 7) / 8 → n ≤ 512 → b ≤ 576
+    bound n b e h = omega arith
+
+run-valid : {s t f i j : List ℕ} {x : Sides} → SidesSound s t f i j x → ValidInstance (x .m .S) (x .run)
+run-valid {i = i} {x = x} h = instance-valid (x .m .S) i (h .run-sound)
+
+pushed-valid : {s t f i j : List ℕ} {x : Sides} → SidesSound s t f i j x → ValidInstance (x .m .T) (x .pushed)
+pushed-valid {s} {t} {f} h =
+    let a = h .migration-sound in
+    let v = mapping-valid s t f (a .S-sound) (a .T-sound) (a .F-sound) in
+    rw (h .pushed-is) (sigma-valid v (even-iff v .0 (h .is-even)) (run-valid h))
+
+-- the turned lists' sheets
+module _ {s t f i j : List ℕ} {x : Sides} (h : SidesSound s t f i j x) (l : List ℕ) where
+  raw-within : length (rawSheet x l) ≤ maxMatchingBytes
+  raw-within = partners-within (run-valid h) (raw (mappingOf (x .m .S) (x .m .T) (x .m .F)) (instanceOf (x .run)) (partner (instanceOf (x .pushed)) l))
+
+  pushed-within : length (pushedSheet x l) ≤ maxMatchingBytes
+  pushed-within = partners-within (pushed-valid h) (pushed (mappingOf (x .m .S) (x .m .T) (x .m .F)) (instanceOf (x .run)) (partner (instanceOf (x .run)) l))
+
+module _ (s t f i j : List ℕ) where
+  turned-within : (list : Sides → Outcome (List ℕ)) (sheet : Sides → List ℕ → List ℕ)
+      → ((x : Sides) → SidesSound s t f i j x → (l : List ℕ) → length (sheet x l) ≤ maxMatchingBytes)
+      → Within maxMatchingBytes (sides s t f i j >>= λ x. list x >>= λ l. accepted (sheet x l))
+  turned-within list sheet h bytes e =
+      let a = bind-accepted (sides s t f i j) (λ x. list x >>= λ l. accepted (sheet x l)) e in
+      let b = bind-accepted (list (a .0)) (λ l. accepted (sheet (a .0) l)) (a .2) in
+      let k : sheet (a .0) (b .0) ≡ bytes = accepted-same (b .2) in
+      rw k at (h (a .0) (sides-accepted s t f i j (a .1)) (b .0))
+
+pub results-within : ResultsWithin
+results-within = record {
+  delta = λ s t f j. sheet-within (λ M e. let a = delta-agrees s t f j e in lendable-within s (a .inputs .S-accepted) (a .lendable));
+  sigma = λ s t f i. sheet-within (λ M e. let a = sigma-agrees s t f i e in lendable-within t (a .inputs .T-accepted) (a .lendable));
+  pi = λ s t f i. sheet-within (λ M e. let a = pi-agrees s t f i e in lendable-within t (a .inputs .T-accepted) (a .lendable));
+  pushed-to-raw = λ s t f i j k. turned-within s t f i j (λ x. judgePushed x k) rawSheet (λ x h l. raw-within h l);
+  raw-to-pushed = λ s t f i j k. turned-within s t f i j (λ x. judgeRaw x k) pushedSheet (λ x h l. pushed-within h l);
+}
+
+-- ---- answers
+
+say-result : (n : ℕ) → n < 4294967296 → Says (accepted n)
+say-result n h = rw (lt-ltb n 4294967296 h)
+
+say-refusal : (n p : ℕ) → n < 256 → p < 256 → Says (refused n p)
+say-refusal n p h k =
+    let a : (4294967296 + 256 * n + p) / 256 % 256 ≡ n = omega arith in
+    let b : (4294967296 + 256 * n + p) % 256 ≡ p = omega arith in
+    rw (le-ltb (4294967296 + 256 * n + p) 4294967296 (omega arith), a, b)
+
+abbrev low : Refusal → Bool
+low r = ltb (r .0) 256 && ltb (r .1) 256
+
+says : {rs : List Refusal} {t : Tests ℕ rs} (o : Outcome ℕ) → Decides t o → all low rs ≡ true → ((n : ℕ) → o ≡ accepted n → n < 4294967296) → Says o
+says {rs} (refused n p) D l h =
+    let b = and-both (ltb n 256) (ltb p 256) (all-of low rs l (refused-in D (n, p) refl)) in
+    say-refusal n p (ltb-true n 256 (b .0)) (ltb-true p 256 (b .1))
+says (accepted n) D l h = say-result n (h n refl)
+
+-- a result as a small number
+module _ {A : Type 0} {rs : List Refusal} {t : Tests A rs} {o : Outcome A} where
+  says-small : Decides t o → all low rs ≡ true → (g : A → ℕ) → ((a : A) → g a < 2) → Says (o >>= λ a. accepted (g a))
+  says-small D l g h = says (o >>= λ a. accepted (g a)) (decides-giving D g) l (λ n e.
+      let a = bind-accepted o (λ a. accepted (g a)) e in
+      let k : g (a .0) ≡ n = accepted-same (a .2) in
+      omega (arith, h (a .0)))
+
+-- a result in a tray
+module _ {rs : List Refusal} {t : Tests ℕ rs} (tray : List ℕ) (o : Outcome (List ℕ)) (m : ℕ) where
+  says-bytes : Decides t (inTray tray o .answer) → all low rs ≡ true → Within m o → m < 4294967296 → Says (inTray tray o .answer)
+  says-bytes D l w k = says (inTray tray o .answer) D l (λ n e.
+      let r = accepted-tray tray o e in
+      omega (arith, w (r .bytes) (r .result), r .size))
+
+bit : (b : Bool) → cond b 1 0 < 2
+bit true = omega arith
+bit false = omega arith
+
+pub exports-say : ExportsSay
+exports-say = record {
+  check-schema = λ s. says-small (checkSchema-decided s) refl (λ _. 0) (λ _. omega arith);
+  check-mapping = λ s t f. says-small (checkMapping-decided s t f) refl (λ _. 0) (λ _. omega arith);
+  check-instance = λ s i. says-small (checkInstance-decided s i) refl (λ _. 0) (λ _. omega arith);
+  same-path = λ s p q. says-small (samePath-decided s p q) refl (λ b. cond b 1 0) bit;
+  delta = λ s t f j tray. says-bytes tray (sheetOf (deltaTables s t f j)) maxInstanceBytes (delta-answer tray s t f j) refl (results-within .delta s t f j) (omega arith);
+  sigma = λ s t f i tray. says-bytes tray (sheetOf (sigmaTables s t f i)) maxInstanceBytes (sigma-answer tray s t f i) refl (results-within .sigma s t f i) (omega arith);
+  pi = λ s t f i tray. says-bytes tray (sheetOf (piTables s t f i)) maxInstanceBytes (pi-answer tray s t f i) refl (results-within .pi s t f i) (omega arith);
+  check-pushed = λ s t f i j k. says-small (checkPushed-decided s t f i j k) refl (λ _. 0) (λ _. omega arith);
+  check-raw = λ s t f i j k. says-small (checkRaw-decided s t f i j k) refl (λ _. 0) (λ _. omega arith);
+  pushed-to-raw = λ s t f i j k tray. says-bytes tray (pushedToRaw s t f i j k) maxMatchingBytes (pushedToRaw-answer tray s t f i j k) refl (results-within .pushed-to-raw s t f i j k) (omega arith);
+  raw-to-pushed = λ s t f i j k tray. says-bytes tray (rawToPushed s t f i j k) maxMatchingBytes (rawToPushed-answer tray s t f i j k) refl (results-within .raw-to-pushed s t f i j k) (omega arith);
+}

@@ -1,0 +1,48 @@
+-- What C learns of a call: the number that an export gives, taken apart as include/migration.h does, is the call's outcome; and a tray of the
+-- header's byte lengths holds every result.
+use Prim.Native.Nat.{ℕ, _/_, _%_, _≤_}
+use mathlib.Core.Path.{_≡_}
+use mathlib.Core.Bool.{cond}
+use mathlib.Core.List.{List}
+use lib.ListN.{length}
+use lib.Dec.{ltb}
+use Rattle.meaning.specs.Formats.{maxInstanceBytes}
+use Rattle.meaning.specs.Calls.{Outcome, refused, accepted, checkSchema, checkMapping, checkInstance, samePath, deltaTables, sigmaTables, piTables, sheetOf, checkPushed, checkRaw, pushedToRaw, rawToPushed, inTray}
+use Rattle.migration.specs.Answers.{encoded, checked, answered}
+
+-- below 2^32 a result; else the number in bits 8 to 15, the place in bits 0 to 7
+abbrev pub decoded : ℕ → Outcome ℕ
+decoded n = cond (ltb n 4294967296) (accepted n) (refused (n / 256 % 256) (n % 256))
+
+abbrev pub Says : Outcome ℕ → Type 0
+Says o = decoded (encoded o) ≡ o
+
+pub record ExportsSay : Type 0 where
+  pub check-schema : (s : List ℕ) → Says (checked (checkSchema s))
+  pub check-mapping : (s t f : List ℕ) → Says (checked (checkMapping s t f))
+  pub check-instance : (s i : List ℕ) → Says (checked (checkInstance s i))
+  pub same-path : (s p q : List ℕ) → Says (answered (samePath s p q))
+  pub delta : (s t f j tray : List ℕ) → Says (inTray tray (sheetOf (deltaTables s t f j)) .answer)
+  pub sigma : (s t f i tray : List ℕ) → Says (inTray tray (sheetOf (sigmaTables s t f i)) .answer)
+  pub pi : (s t f i tray : List ℕ) → Says (inTray tray (sheetOf (piTables s t f i)) .answer)
+  pub check-pushed : (s t f i j k : List ℕ) → Says (checked (checkPushed s t f i j k))
+  pub check-raw : (s t f i j k : List ℕ) → Says (checked (checkRaw s t f i j k))
+  pub pushed-to-raw : (s t f i j k tray : List ℕ) → Says (inTray tray (pushedToRaw s t f i j k) .answer)
+  pub raw-to-pushed : (s t f i j k tray : List ℕ) → Says (inTray tray (rawToPushed s t f i j k) .answer)
+
+-- ---- byte lengths
+
+-- 512 rows of 9 bits
+abbrev pub maxMatchingBytes : ℕ
+maxMatchingBytes = 576
+
+-- a result has at most n bytes
+abbrev pub Within : ℕ → Outcome (List ℕ) → Type 0
+Within n o = (bytes : List ℕ) → o ≡ accepted bytes → length bytes ≤ n
+
+pub record ResultsWithin : Type 0 where
+  pub delta : (s t f j : List ℕ) → Within maxInstanceBytes (sheetOf (deltaTables s t f j))
+  pub sigma : (s t f i : List ℕ) → Within maxInstanceBytes (sheetOf (sigmaTables s t f i))
+  pub pi : (s t f i : List ℕ) → Within maxInstanceBytes (sheetOf (piTables s t f i))
+  pub pushed-to-raw : (s t f i j k : List ℕ) → Within maxMatchingBytes (pushedToRaw s t f i j k)
+  pub raw-to-pushed : (s t f i j k : List ℕ) → Within maxMatchingBytes (rawToPushed s t f i j k)
