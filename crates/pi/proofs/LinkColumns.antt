@@ -67,7 +67,7 @@ module _ {s t : Schema} {tp : Paths} {f : Mapping} {k : Components} {run : Insta
           ap (λ (n : ℕ). position (λ y. sameList w (columnOf table (64 * (blockOf counts (k .count) there .first + y)) (getD (k .count) there 0))) (upto n)) (L .count there there-in)
           ∙ position-upto (λ y. sameList w (columnOf table (64 * (blockOf counts (k .count) there .first + y)) (getD (k .count) there 0))) (sameList w) [] (familiesOf s t f run links there) (λ y m. ap (sameList w) (row-is M K L there there-in y m))
 
-      pub link-is : linkRow (t .graph) tp k counts table e x ≡ linkTo here there e (family x)
+      link-is : linkRow (t .graph) tp k counts table e x ≡ linkTo here there e (family x)
       link-is =
           ap (λ (w : List ℕ). rowPlace table (blockOf counts (k .count) there .first) (getD counts there 0) w (getD (k .count) there 0)) restricted
           ∙ placed (restrictTo here there e (family x))

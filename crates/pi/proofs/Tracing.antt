@@ -54,13 +54,13 @@ module _ {s t : Schema} {tp : Paths} {f : Mapping} {k : Components} (M : Mapped 
   abbrev first : Path
   first = componentOf s t f d j .first
 
-  pub record Numbered : Type 0 where
-    pub below : getD (k .first) (64 * d + j) 0 < tp .count
-    pub edges : pathEdges tp (getD (k .first) (64 * d + j) 0) ≡ first .edges
-    pub short : getD (tp .length) (getD (k .first) (64 * d + j) 0) 0 ≤ 15
-    pub joined : joins G d (first .edges) ≡ true
+  record Numbered : Type 0 where
+    below : getD (k .first) (64 * d + j) 0 < tp .count
+    edges : pathEdges tp (getD (k .first) (64 * d + j) 0) ≡ first .edges
+    short : getD (tp .length) (getD (k .first) (64 * d + j) 0) 0 ≤ 15
+    joined : joins G d (first .edges) ≡ true
 
-  pub numbered : Numbered
+  numbered : Numbered
   numbered =
       let i = getD (k .first) (64 * d + j) 0 in
       let w = formed (M .target) in

@@ -48,7 +48,7 @@ module _ (s t : Schema) (f : Mapping) (B : isBijective (schemaOf t) (mappingOf s
       omega (arith, position-in (eqb b) images (m .0) (m .1), tabulate-length (s .attributes) (λ i. getD (f .attribute) i 0))
 
 -- ---- the values of row r of attribute a
-pub value-is : (s : Schema) (run : Instance) (links values : List ℕ) (a r : ℕ) → a < s .attributes → entryOf values (512 * a) (rowsOf (s .node) (run .counts) a) r ≡ value (tablesOf s run links values) a r
+value-is : (s : Schema) (run : Instance) (links values : List ℕ) (a r : ℕ) → a < s .attributes → entryOf values (512 * a) (rowsOf (s .node) (run .counts) a) r ≡ value (tablesOf s run links values) a r
 value-is s run links values a r l =
     let n = rowsOf (s .node) (run .counts) a in
     let column : List ℕ = columnOf values (512 * a) n in
