@@ -16,7 +16,6 @@ use Rattle.mapping.specs.declared.Mapping.{Mapping}
 use Rattle.mapping.specs.Decoded.{mappingOf}
 use Rattle.instance.specs.declared.Instance.{Instance}
 use Rattle.instance.specs.Decoded.{rowsOf, columnOf, columnsOf, tablesOf}
-use Rattle.instance.proofs.SoundSchema.{source-in, target-in}
 use Rattle.delta.specs.Stored.{ColumnsStored}
 use Rattle.pi.specs.declared.components.Components.{Components}
 use Rattle.pi.specs.Given.{Mapped}
@@ -24,7 +23,7 @@ use Rattle.pi.specs.Components.{componentsOf}
 use Rattle.pi.specs.Families.{Gathered, familiesOf, familyCount, FamiliesUpto}
 use Rattle.pi.specs.Links.{sourceOf, targetOf, placeAfter, entryOf, rowPlace, blockOf, linkRow}
 use Rattle.pi.proofs.Places.{position-upto}
-use Rattle.pi.proofs.Tracing.{width-is, place-after}
+use Rattle.pi.proofs.Tracing.{width-is, here-in, there-in, place-after}
 use Rattle.pi.proofs.ListedRows.{map-places, map-upto, row-is, entry-is}
 
 module _ {s t : Schema} {tp : Paths} {f : Mapping} {k : Components} {run : Instance} {links counts table : List ℕ} (M : Mapped s t tp f) (K : Gathered s t f k) (L : FamiliesUpto s t f run links (t .graph .nodes) counts table) where
@@ -43,12 +42,6 @@ module _ {s t : Schema} {tp : Paths} {f : Mapping} {k : Components} {run : Insta
     abbrev there : ℕ
     there = targetOf (t .graph) e
 
-    here-in : here < t .graph .nodes
-    here-in = source-in t (M .target) e l
-
-    there-in : there < t .graph .nodes
-    there-in = target-in t (M .target) e l
-
     abbrev family : ℕ → List ℕ
     family x = getD (familiesOf s t f run links here) x []
 
@@ -58,14 +51,14 @@ module _ {s t : Schema} {tp : Paths} {f : Mapping} {k : Components} {run : Insta
 
       restricted : tabulate (getD (k .count) there 0) taken ≡ restrictTo here there e (family x)
       restricted =
-          ap (λ (n : ℕ). tabulate n taken) (width-is K there there-in)
-          ∙ tabulate-same (length (componentsOf s t f there)) (λ j m. entry-is M K L here here-in x h (placeAfter (t .graph) tp k e j) ∙ ap (λ (p : ℕ). getD (family x) p 0) (place-after M K e l j m))
+          ap (λ (n : ℕ). tabulate n taken) (width-is K there (there-in M K e l))
+          ∙ tabulate-same (length (componentsOf s t f there)) (λ j m. entry-is M K L here (here-in M K e l) x h (placeAfter (t .graph) tp k e j) ∙ ap (λ (p : ℕ). getD (family x) p 0) (place-after M K e l j m))
           ∙ map-places (λ c. getD (family x) (componentAt (schemaOf t) (componentsOf s t f here) (c .node) (path here (e ∷ c .first .edges))) 0) noComponent (componentsOf s t f there)
 
       placed : (w : List ℕ) → rowPlace table (blockOf counts (k .count) there .first) (getD counts there 0) w (getD (k .count) there 0) ≡ position (sameList w) (familiesOf s t f run links there)
       placed w =
-          ap (λ (n : ℕ). position (λ y. sameList w (columnOf table (64 * (blockOf counts (k .count) there .first + y)) (getD (k .count) there 0))) (upto n)) (L .count there there-in)
-          ∙ position-upto (λ y. sameList w (columnOf table (64 * (blockOf counts (k .count) there .first + y)) (getD (k .count) there 0))) (sameList w) [] (familiesOf s t f run links there) (λ y m. ap (sameList w) (row-is M K L there there-in y m))
+          ap (λ (n : ℕ). position (λ y. sameList w (columnOf table (64 * (blockOf counts (k .count) there .first + y)) (getD (k .count) there 0))) (upto n)) (L .count there (there-in M K e l))
+          ∙ position-upto (λ y. sameList w (columnOf table (64 * (blockOf counts (k .count) there .first + y)) (getD (k .count) there 0))) (sameList w) [] (familiesOf s t f run links there) (λ y m. ap (sameList w) (row-is M K L there (there-in M K e l) y m))
 
       link-is : linkRow (t .graph) tp k counts table e x ≡ linkTo here there e (family x)
       link-is =
@@ -75,7 +68,7 @@ module _ {s t : Schema} {tp : Paths} {f : Mapping} {k : Components} {run : Insta
     module _ (r : List ℕ) (same : (x : ℕ) → x < rowsOf (t .graph .source) counts e → getD r (512 * e + x) 0 ≡ linkRow (t .graph) tp k counts table e x) where
       column-is : columnOf r (512 * e) (rowsOf (t .graph .source) counts e) ≡ map (linkTo (source (graphOf (t .graph)) e) (target (graphOf (t .graph)) e) e) (familiesOf s t f run links (source (graphOf (t .graph)) e))
       column-is =
-          let a = L .count here here-in in
+          let a = L .count here (here-in M K e l) in
           tabulate-same (rowsOf (t .graph .source) counts e) (λ x h. same x h ∙ link-is x (rw a at h))
           ∙ ap (λ (n : ℕ). tabulate n (λ x. linkTo here there e (family x))) a
           ∙ map-places (linkTo here there e) [] (familiesOf s t f run links here)

@@ -93,10 +93,10 @@ module _ {s t : Schema} {tp : Paths} {f : Mapping} {k : Components} (M : Mapped 
   abbrev there : ℕ
   there = targetOf (t .graph) e
 
-  here-in : here < t .graph .nodes
+  pub here-in : here < t .graph .nodes
   here-in = source-in t (M .target) e l
 
-  there-in : there < t .graph .nodes
+  pub there-in : there < t .graph .nodes
   there-in = target-in t (M .target) e l
 
   -- edge e followed by edges from its target on

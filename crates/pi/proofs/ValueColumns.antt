@@ -27,13 +27,14 @@ use Rattle.mapping.proofs.Viewing.{attributes-count, attribute-is}
 use Rattle.instance.specs.declared.Instance.{Instance}
 use Rattle.instance.specs.Decoded.{rowsOf, columnOf, columnsOf, tablesOf}
 use Rattle.instance.proofs.SoundSchema.{home-in}
-use Rattle.delta.specs.Stored.{ColumnsStored}
+use Rattle.delta.specs.Stored.{Stored, ColumnsStored}
 use Rattle.pi.specs.declared.components.Components.{Components}
+use Rattle.pi.specs.declared.links.Block.{Block}
 use Rattle.pi.specs.Given.{Mapped}
 use Rattle.pi.specs.Components.{componentsOf}
 use Rattle.pi.specs.Families.{Gathered, familiesOf, familyCount, FamiliesUpto}
-use Rattle.pi.specs.Links.{entryOf}
-use Rattle.pi.specs.Values.{attributeOver, homeOf, valuePlace, valueRow}
+use Rattle.pi.specs.Links.{entryOf, blockOf}
+use Rattle.pi.specs.Values.{attributeOver, homeOf, valuePlace, valueThrough, valueRow}
 use Rattle.pi.proofs.Places.{place-is}
 use Rattle.pi.proofs.ComponentFacts.{few-at}
 use Rattle.pi.proofs.ListedRows.{map-places, map-upto, entry-list, entry-is}
@@ -105,3 +106,9 @@ module _ {s t : Schema} {tp : Paths} {f : Mapping} {k : Components} {run : Insta
   values-are {r = r} u =
       map-upto (t .attributes) (λ b l. column-is b l r (u .each b l))
       ∙ ap (λ (n : ℕ). map (λ b. map (valueAt (schemaOf s) (schemaOf t) (mappingOf s f) I b) (familiesOf s t f run links (attributeAt (schemaOf t) b .node))) (upto n)) (sym (attributes-count t))
+
+-- ---- values stored row by row
+module _ (s t : Schema) (p : Paths) (k : Components) (image run counts rows values : List ℕ) (b : ℕ) where
+  pub value-stored : {here : Block} {place a n : ℕ} {l r : List ℕ} → here ≡ blockOf counts (k .count) (homeOf t b) → a ≡ attributeOver s image b → place ≡ valuePlace s t p k a b → n ≡ rowsOf (s .node) run a
+      → Stored (valueThrough rows here place values (512 * a) n) (here .count) (512 * b) l r → Stored (valueRow s t p k image run counts rows values b) (rowsOf (t .node) counts b) (512 * b) l r
+  value-stored d e f g u = rw (d, g, f, e) at u

@@ -9,7 +9,7 @@ use Rattle.delta.specs.Stored.{ColumnsStored}
 use Rattle.delta.proofs.Storing.{columns-none, columns-more, columns-done}
 use Rattle.pi.specs.Links.{blockOf}
 use Rattle.pi.specs.Values.{homeOf, valueRow}
-use Rattle.pi.proofs.Reading.{value-stored}
+use Rattle.pi.proofs.ValueColumns.{value-stored}
 use Rattle.pi.proofs.values.pi_values.Statement.{statement}
 use Rattle.pi.proofs.values.pi_values.Tie as tie
 
