@@ -1,6 +1,7 @@
 // Links of Pi's tables: a row of an edge's source, restricted to the components of its target, is found among the target's rows.
 use crate::components::Components;
 use crate::components::place;
+use instance::Instance;
 use instance::tables::layout;
 use instance::tables::table_among;
 use mapping::edges::path_edges;
@@ -40,21 +41,21 @@ fn place_after(g: Graph, p: Paths, k: Components, e: usize, j: usize) -> usize
     ensures { λ r. ⌜ r ≡ placeAfter g p k e j ⌝ }
 {
     let d = wide(g.source[e]);
-    let at = 64 * wide(g.target[e]) + j;
+    let at = Components::MOST * wide(g.target[e]) + j;
     let x = after_edge(p, d, e, wide(k.first[at]));
     let n = k.count[d];
     let c = k.node[at];
     let class = p.class[x];
-    place(&k.node, &k.first, 64 * d, n, c, class)
+    place(&k.node, &k.first, Components::MOST * d, n, c, class)
 }
 
 // The places at edge e's source of all components of its target.
-fn places_after(g: Graph, p: Paths, k: Components, e: usize) -> [usize; 64]
+fn places_after(g: Graph, p: Paths, k: Components, e: usize) -> [usize; Components::MOST]
     requires { ⌜ Traced g p k e ⌝ }
     ensures { λ r. ⌜ Filled 64 (placeAfter g p k e) (getD (k .count) (targetOf g e) 0) r ⌝ }
 {
     let n = k.count[wide(g.target[e])];
-    let mut places = [0usize; 64];
+    let mut places = [0usize; Components::MOST];
     let mut j = 0;
     while j < n {
         places[j] = place_after(g, p, k, e, j);
@@ -75,11 +76,17 @@ pub fn entry(rows: &[u16], base: usize, n: usize, p: usize) -> u16
 }
 
 // The entries at m places.
-fn restricted(rows: &[u16], base: usize, n: usize, places: &[usize; 64], m: usize) -> [u16; 64]
+fn restricted(
+    rows: &[u16],
+    base: usize,
+    n: usize,
+    places: &[usize; Components::MOST],
+    m: usize,
+) -> [u16; Components::MOST]
     requires { ⌜ (m ≤ 64) × (base + n ≤ length (now rows)) ⌝ }
     ensures { λ r. ⌜ Filled 64 (λ j. entryOf (now (rows .entry)) base n (getD (now (places .entry)) j 0)) m r ⌝ }
 {
-    let mut row = [0u16; 64];
+    let mut row = [0u16; Components::MOST];
     let mut j = 0;
     while j < m {
         row[j] = entry(rows, base, n, places[j]);
@@ -89,7 +96,7 @@ fn restricted(rows: &[u16], base: usize, n: usize, places: &[usize; 64], m: usiz
 }
 
 // The m numbers from base on against those wanted: 0 where they are equal, 1 where they stand before them, 2 where behind.
-fn compare(rows: &[u16], base: usize, wanted: &[u16; 64], m: usize) -> usize
+fn compare(rows: &[u16], base: usize, wanted: &[u16; Components::MOST], m: usize) -> usize
     requires { ⌜ (m ≤ 64) × (base + m ≤ length (now rows)) ⌝ }
     ensures { λ r. ⌜ Compares (columnOf (now (rows .entry)) base m) (firstOf m (now (wanted .entry))) r ⌝ }
 {
@@ -109,7 +116,7 @@ fn compare(rows: &[u16], base: usize, wanted: &[u16; 64], m: usize) -> usize
 }
 
 // The place of the wanted row in a table, or the number of its rows: they ascend, so half of them are left out at each step.
-fn find_row(rows: &[u16], b: Block, wanted: &[u16; 64]) -> usize
+fn find_row(rows: &[u16], b: Block, wanted: &[u16; Components::MOST]) -> usize
     requires { ⌜ Within (now rows) b × Ordered (now rows) b ⌝ }
     ensures { λ r. ⌜ r ≡ rowPlace (now (rows .entry)) (b .first) (b .count) (firstOf (b .width) (now (wanted .entry))) (b .width) ⌝ }
 {
@@ -117,7 +124,7 @@ fn find_row(rows: &[u16], b: Block, wanted: &[u16; 64]) -> usize
     let mut high = b.count;
     while low < high {
         let x = (low + high) / 2;
-        let c = compare(rows, 64 * (b.first + x), wanted, b.width);
+        let c = compare(rows, Components::MOST * (b.first + x), wanted, b.width);
         if c == 0 {
             return x;
         }
@@ -135,7 +142,7 @@ fn link_column(
     rows: &[u16],
     here: Block,
     there: Block,
-    places: &[usize; 64],
+    places: &[usize; Components::MOST],
     out: &mut [u32],
     base: usize,
 )
@@ -144,7 +151,13 @@ fn link_column(
 {
     let mut x = 0;
     while x < here.count {
-        let row = restricted(rows, 64 * (here.first + x), here.width, places, there.width);
+        let row = restricted(
+            rows,
+            Components::MOST * (here.first + x),
+            here.width,
+            places,
+            there.width,
+        );
         out[base + x] = find_row(rows, there, &row) as u32;
         x += 1;
     }
@@ -175,7 +188,7 @@ pub fn pi_links(g: Graph, p: Paths, k: Components, counts: &[u32], rows: &[u16],
         let here = block_at(counts, k, wide(g.source[e]));
         let there = block_at(counts, k, wide(g.target[e]));
         let places = places_after(g, p, k, e);
-        link_column(rows, here, there, &places, &mut *out, 512 * e);
+        link_column(rows, here, there, &places, &mut *out, Instance::ROWS * e);
         e += 1;
     }
 }

@@ -29,7 +29,7 @@ fn value_place(s: Schema, t: Schema, p: Paths, k: Components, a: usize, b: usize
     let d = wide(t.node[b]);
     let n = k.count[d];
     let class = p.class[d];
-    place(&k.node, &k.first, 64 * d, n, c, class)
+    place(&k.node, &k.first, Components::MOST * d, n, c, class)
 }
 
 // Value x of n from base on, or 0 past their end.
@@ -59,7 +59,7 @@ fn value_column(
 {
     let mut x = 0;
     while x < here.count {
-        let row = entry(rows, 64 * (here.first + x), here.width, place);
+        let row = entry(rows, Components::MOST * (here.first + x), here.width, place);
         out[at + x] = value(values, base, n, index(row));
         x += 1;
     }
@@ -91,7 +91,16 @@ pub fn pi_values(
         let here = block_at(counts, k, wide(target[b]));
         let place = value_place(s, t, p, k, a, b);
         let n = rows_of(&source, &read, a);
-        value_column(rows, here, place, values, 512 * a, n, &mut *out, 512 * b);
+        value_column(
+            rows,
+            here,
+            place,
+            values,
+            Instance::ROWS * a,
+            n,
+            &mut *out,
+            Instance::ROWS * b,
+        );
         b += 1;
     }
 }
