@@ -16,11 +16,11 @@ use Rattle.schema.specs.Decoded.{schemaOf}
 use Rattle.schema.specs.Judged.{Sound}
 use Rattle.mapping.specs.Decoded.{mappingOf}
 use Rattle.instance.specs.Decoded.{firstOf, Room}
-use Rattle.pi.specs.declared.Joined.{Joined}
+use Rattle.pi.specs.declared.PiTables.{PiTables}
 use Rattle.pi.specs.declared.components.Components.{Components}
 use Rattle.pi.specs.Components.{AllComponents}
 use Rattle.pi.specs.Given.{Mapped}
-use Rattle.pi.specs.Joining.{piOf, Joins}
+use Rattle.pi.specs.Tables.{piOf, GivesPi}
 use Rattle.migration.specs.declared.open.Opened.{Opened}
 use Rattle.migration.specs.declared.results.Migrated.{Migrated}
 use Rattle.migration.specs.declared.runs.Run.{Run}
@@ -33,7 +33,7 @@ use Rattle.migration.proofs.Migrating.{size, sized, made, stopped}
 
 -- what Pi takes of the sheets of S, T and a mapping
 pub mapped : {o : Opened} → Ready o → Mapped (o .source) (o .target) (o .«target_paths») (o .mapping)
-mapped R = record { source = R .schemas .source; target = R .schemas .target; paths = R .schemas .target-paths; short = R .mapping .short; fits = R .mapping .fits; keeps = R .mapping .keeps }
+mapped R = record { source = R .schemas .source; target = R .schemas .target; is-paths = R .schemas .target-paths; short = R .mapping .short; fits = R .mapping .fits; keeps = R .mapping .keeps }
 
 -- ---- two tests in turn
 two-tested : (a b : Bool) → outcomeOf (refusal (cond a (cond b 0 14) 13) 0) tt ≡ (ensure a 13 >>= λ _. ensure b 14)
@@ -53,7 +53,7 @@ module _ (x : Run) (links values : List ℕ) where
   result = record { schema = schemaOf (x .opened .target); tables = tables }
 
   -- Pi's tables, or that there are too many rows
-  module _ (T : Sound (x .opened .target)) {r : Joined} {found read : List ℕ} (u : Joins (x .opened .source) (x .opened .target) (x .opened .mapping) (x .run) links values r found read) where
+  module _ (T : Sound (x .opened .target)) {r : PiTables} {found read : List ℕ} (u : GivesPi (x .opened .source) (x .opened .target) (x .opened .mapping) (x .run) links values r found read) where
     pub joined-made : r .fits ≡ true → Migrates (record { refusal = refusal 0 0; schema = x .opened .target; tables = r .tables }) found read (joinedRun (runInputOf x links values))
     joined-made fit =
         let few : leb (sumOf (firstOf (x .opened .target .graph .nodes) (r .tables .counts))) maxRows ≡ true = ap (λ (J : formats.Instance). leb (sumOf (J .counts)) maxRows) (u .says fit) ∙ sym (u .fits) ∙ fit in

@@ -13,7 +13,7 @@ use Rattle.instance.specs.Decoded.{tablesOf, Limits}
 use Rattle.instance.specs.Tested.{Accepted}
 use Rattle.sigma.specs.Pushed.{Pushable}
 use Rattle.pi.specs.declared.components.Components.{Components}
-use Rattle.pi.specs.Joining.{Joinable}
+use Rattle.pi.specs.Tables.{PiReady}
 use Rattle.migration.specs.declared.runs.Run.{Run}
 use Rattle.migration.specs.Answers.{outcomeOf}
 use Rattle.migration.specs.Opened.{migrationOf, Ready}
@@ -59,4 +59,4 @@ PushableRun x = Pushable (x .opened .source) (x .opened .target) (x .opened .«s
 
 -- what Pi relies on
 abbrev pub JoinableRun : Run → Components → List ℕ → List ℕ → Type 0
-JoinableRun x = Joinable (x .opened .source) (x .opened .target) (x .opened .«target_paths») (x .opened .mapping) (x .run)
+JoinableRun x = PiReady (x .opened .source) (x .opened .target) (x .opened .«target_paths») (x .opened .mapping) (x .run)

@@ -16,18 +16,17 @@ use Rattle.mapping.specs.declared.Mapping.{Mapping}
 use Rattle.mapping.specs.Decoded.{mappingOf}
 use Rattle.instance.specs.declared.Instance.{Instance}
 use Rattle.instance.specs.Decoded.{rowsOf, columnOf, columnsOf, tablesOf}
-use Rattle.instance.proofs.SoundSchema.{source-in, target-in}
 use Rattle.delta.specs.Stored.{ColumnsStored}
 use Rattle.pi.specs.declared.components.Components.{Components}
 use Rattle.pi.specs.Given.{Mapped}
 use Rattle.pi.specs.Components.{componentsOf}
 use Rattle.pi.specs.Families.{Gathered, familiesOf, familyCount, FamiliesUpto}
-use Rattle.pi.specs.Links.{sourceOf, targetOf, placeAfter, entryOf, rowPlace, blockOf, linkRow}
+use Rattle.pi.specs.Links.{sourceOf, targetOf, placeAfter, entryOf, rowPlace, tableRows, linkRow}
 use Rattle.pi.proofs.Places.{position-upto}
-use Rattle.pi.proofs.Tracing.{width-is, place-after}
+use Rattle.pi.proofs.Tracing.{width-is, here-in, there-in, place-after}
 use Rattle.pi.proofs.ListedRows.{map-places, map-upto, row-is, entry-is}
 
-module _ {s t : Schema} {tp : Paths} {f : Mapping} {k : Components} {run : Instance} {links counts table : List ℕ} (M : Mapped s t tp f) (K : Gathered s t f k) (L : FamiliesUpto s t f run links (t .graph .nodes) counts table) where
+module _ {s t : Schema} {paths : Paths} {f : Mapping} {k : Components} {run : Instance} {links counts table : List ℕ} (M : Mapped s t paths f) (K : Gathered s t f k) (L : FamiliesUpto s t f run links (t .graph .nodes) counts table) where
   -- the row at the end of e from d to h of a row at d
   abbrev restrictTo : ℕ → ℕ → ℕ → List ℕ → List ℕ
   restrictTo d h e rs = map (λ x. getD rs (componentAt (schemaOf t) (componentsOf s t f d) (x .node) (path d (e ∷ x .first .edges))) 0) (componentsOf s t f h)
@@ -43,45 +42,39 @@ module _ {s t : Schema} {tp : Paths} {f : Mapping} {k : Components} {run : Insta
     abbrev there : ℕ
     there = targetOf (t .graph) e
 
-    here-in : here < t .graph .nodes
-    here-in = source-in t (M .target) e l
-
-    there-in : there < t .graph .nodes
-    there-in = target-in t (M .target) e l
-
     abbrev family : ℕ → List ℕ
     family x = getD (familiesOf s t f run links here) x []
 
     module _ (x : ℕ) (h : x < familyCount s t f run links here) where
       abbrev taken : ℕ → ℕ
-      taken j = entryOf table (64 * (blockOf counts (k .count) here .first + x)) (getD (k .count) here 0) (placeAfter (t .graph) tp k e j)
+      taken j = entryOf table (64 * (tableRows counts (k .count) here .first + x)) (getD (k .count) here 0) (placeAfter (t .graph) paths k e j)
 
       restricted : tabulate (getD (k .count) there 0) taken ≡ restrictTo here there e (family x)
       restricted =
-          ap (λ (n : ℕ). tabulate n taken) (width-is K there there-in)
-          ∙ tabulate-same (length (componentsOf s t f there)) (λ j m. entry-is M K L here here-in x h (placeAfter (t .graph) tp k e j) ∙ ap (λ (p : ℕ). getD (family x) p 0) (place-after M K e l j m))
+          ap (λ (n : ℕ). tabulate n taken) (width-is K there (there-in M K e l))
+          ∙ tabulate-same (length (componentsOf s t f there)) (λ j m. entry-is M K L here (here-in M K e l) x h (placeAfter (t .graph) paths k e j) ∙ ap (λ (p : ℕ). getD (family x) p 0) (place-after M K e l j m))
           ∙ map-places (λ c. getD (family x) (componentAt (schemaOf t) (componentsOf s t f here) (c .node) (path here (e ∷ c .first .edges))) 0) noComponent (componentsOf s t f there)
 
-      placed : (w : List ℕ) → rowPlace table (blockOf counts (k .count) there .first) (getD counts there 0) w (getD (k .count) there 0) ≡ position (sameList w) (familiesOf s t f run links there)
+      placed : (w : List ℕ) → rowPlace table (tableRows counts (k .count) there .first) (getD counts there 0) w (getD (k .count) there 0) ≡ position (sameList w) (familiesOf s t f run links there)
       placed w =
-          ap (λ (n : ℕ). position (λ y. sameList w (columnOf table (64 * (blockOf counts (k .count) there .first + y)) (getD (k .count) there 0))) (upto n)) (L .count there there-in)
-          ∙ position-upto (λ y. sameList w (columnOf table (64 * (blockOf counts (k .count) there .first + y)) (getD (k .count) there 0))) (sameList w) [] (familiesOf s t f run links there) (λ y m. ap (sameList w) (row-is M K L there there-in y m))
+          ap (λ (n : ℕ). position (λ y. sameList w (columnOf table (64 * (tableRows counts (k .count) there .first + y)) (getD (k .count) there 0))) (upto n)) (L .count there (there-in M K e l))
+          ∙ position-upto (λ y. sameList w (columnOf table (64 * (tableRows counts (k .count) there .first + y)) (getD (k .count) there 0))) (sameList w) [] (familiesOf s t f run links there) (λ y m. ap (sameList w) (row-is M K L there (there-in M K e l) y m))
 
-      pub link-is : linkRow (t .graph) tp k counts table e x ≡ linkTo here there e (family x)
+      link-is : linkRow (t .graph) paths k counts table e x ≡ linkTo here there e (family x)
       link-is =
-          ap (λ (w : List ℕ). rowPlace table (blockOf counts (k .count) there .first) (getD counts there 0) w (getD (k .count) there 0)) restricted
+          ap (λ (w : List ℕ). rowPlace table (tableRows counts (k .count) there .first) (getD counts there 0) w (getD (k .count) there 0)) restricted
           ∙ placed (restrictTo here there e (family x))
 
-    module _ (r : List ℕ) (same : (x : ℕ) → x < rowsOf (t .graph .source) counts e → getD r (512 * e + x) 0 ≡ linkRow (t .graph) tp k counts table e x) where
+    module _ (r : List ℕ) (same : (x : ℕ) → x < rowsOf (t .graph .source) counts e → getD r (512 * e + x) 0 ≡ linkRow (t .graph) paths k counts table e x) where
       column-is : columnOf r (512 * e) (rowsOf (t .graph .source) counts e) ≡ map (linkTo (source (graphOf (t .graph)) e) (target (graphOf (t .graph)) e) e) (familiesOf s t f run links (source (graphOf (t .graph)) e))
       column-is =
-          let a = L .count here here-in in
+          let a = L .count here (here-in M K e l) in
           tabulate-same (rowsOf (t .graph .source) counts e) (λ x h. same x h ∙ link-is x (rw a at h))
           ∙ ap (λ (n : ℕ). tabulate n (λ x. linkTo here there e (family x))) a
           ∙ map-places (linkTo here there e) [] (familiesOf s t f run links here)
           ∙ ap₂ (λ (d h : ℕ). map (linkTo d h e) (familiesOf s t f run links d)) (sym (source-at (t .graph .edges) (t .graph .source) (t .graph .target) e l)) (sym (target-at (t .graph .edges) (t .graph .source) (t .graph .target) e l))
 
-  pub links-are : {o r : List ℕ} (values : List ℕ) → ColumnsStored (t .graph .edges) (rowsOf (t .graph .source) counts) (linkRow (t .graph) tp k counts table) o r
+  pub links-are : {o r : List ℕ} (values : List ℕ) → ColumnsStored (t .graph .edges) (rowsOf (t .graph .source) counts) (linkRow (t .graph) paths k counts table) o r
       → columnsOf (t .graph .edges) (rowsOf (t .graph .source) counts) r ≡ pi (schemaOf s) (schemaOf t) (mappingOf s f) (tablesOf s run links values) .links
   links-are {r = r} values u =
       map-upto (t .graph .edges) (λ e l. column-is e l r (u .each e l))

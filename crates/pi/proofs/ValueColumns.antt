@@ -27,13 +27,14 @@ use Rattle.mapping.proofs.Viewing.{attributes-count, attribute-is}
 use Rattle.instance.specs.declared.Instance.{Instance}
 use Rattle.instance.specs.Decoded.{rowsOf, columnOf, columnsOf, tablesOf}
 use Rattle.instance.proofs.SoundSchema.{home-in}
-use Rattle.delta.specs.Stored.{ColumnsStored}
+use Rattle.delta.specs.Stored.{Stored, ColumnsStored}
 use Rattle.pi.specs.declared.components.Components.{Components}
+use Rattle.pi.specs.declared.links.TableRows.{TableRows}
 use Rattle.pi.specs.Given.{Mapped}
 use Rattle.pi.specs.Components.{componentsOf}
 use Rattle.pi.specs.Families.{Gathered, familiesOf, familyCount, FamiliesUpto}
-use Rattle.pi.specs.Links.{entryOf}
-use Rattle.pi.specs.Values.{attributeOver, homeOf, valuePlace, valueRow}
+use Rattle.pi.specs.Links.{entryOf, tableRows}
+use Rattle.pi.specs.Values.{attributeOver, attributeNode, valuePlace, valueThrough, valueRow}
 use Rattle.pi.proofs.Places.{place-is}
 use Rattle.pi.proofs.ComponentFacts.{few-at}
 use Rattle.pi.proofs.ListedRows.{map-places, map-upto, entry-list, entry-is}
@@ -48,14 +49,14 @@ module _ (s t : Schema) (f : Mapping) (B : isBijective (schemaOf t) (mappingOf s
       omega (arith, position-in (eqb b) images (m .0) (m .1), tabulate-length (s .attributes) (λ i. getD (f .attribute) i 0))
 
 -- ---- the values of row r of attribute a
-pub value-is : (s : Schema) (run : Instance) (links values : List ℕ) (a r : ℕ) → a < s .attributes → entryOf values (512 * a) (rowsOf (s .node) (run .counts) a) r ≡ value (tablesOf s run links values) a r
+value-is : (s : Schema) (run : Instance) (links values : List ℕ) (a r : ℕ) → a < s .attributes → entryOf values (512 * a) (rowsOf (s .node) (run .counts) a) r ≡ value (tablesOf s run links values) a r
 value-is s run links values a r l =
     let n = rowsOf (s .node) (run .counts) a in
     let column : List ℕ = columnOf values (512 * a) n in
     entry-list values (512 * a) n r column (tabulate-length n (λ i. getD values (512 * a + i) 0)) (λ i h. sym (tabulate-getD n (λ i. getD values (512 * a + i) 0) 0 i h))
     ∙ ap (λ (c : List ℕ). getD c r 0) (sym (tabulate-getD (s .attributes) (λ i. columnOf values (512 * i) (rowsOf (s .node) (run .counts) i)) [] a l))
 
-module _ {s t : Schema} {tp : Paths} {f : Mapping} {k : Components} {run : Instance} {links counts table : List ℕ} (M : Mapped s t tp f) (K : Gathered s t f k) (L : FamiliesUpto s t f run links (t .graph .nodes) counts table) (B : isBijective (schemaOf t) (mappingOf s f) ≡ true) (values : List ℕ) where
+module _ {s t : Schema} {paths : Paths} {f : Mapping} {k : Components} {run : Instance} {links counts table : List ℕ} (M : Mapped s t paths f) (K : Gathered s t f k) (L : FamiliesUpto s t f run links (t .graph .nodes) counts table) (B : isBijective (schemaOf t) (mappingOf s f) ≡ true) (values : List ℕ) where
   abbrev I : meaning.Instance
   I = tablesOf s run links values
 
@@ -68,7 +69,7 @@ module _ {s t : Schema} {tp : Paths} {f : Mapping} {k : Components} {run : Insta
     a = attributeOver s (f .attribute) b
 
     abbrev d : ℕ
-    d = homeOf t b
+    d = attributeNode t b
 
     a-in : a < s .attributes
     a-in = attribute-over s t f B b l
@@ -76,32 +77,38 @@ module _ {s t : Schema} {tp : Paths} {f : Mapping} {k : Components} {run : Insta
     d-in : d < t .graph .nodes
     d-in = home-in t (M .target) b l
 
-    place-of : valuePlace s t tp k a b ≡ componentAt (schemaOf t) (componentsOf s t f d) (homeOf s a) (path d [])
+    place-of : valuePlace s t paths k a b ≡ componentAt (schemaOf t) (componentsOf s t f d) (attributeNode s a) (path d [])
     place-of =
-        let n : d < tp .count = omega (arith, d-in, trivial-count (graphOf (t .graph)) (M .target .acyclic), M .paths .table .counted) in
-        place-is (K .all .each d d-in) (few-at K d d-in) (M .target) (M .paths) (homeOf s a) d n
-        ∙ ap (componentAt (schemaOf t) (componentsOf s t f d) (homeOf s a)) (trivial-at (graphOf (t .graph)) (M .target .acyclic) d d-in)
+        let n : d < paths .count = omega (arith, d-in, trivial-count (graphOf (t .graph)) (M .target .acyclic), M .is-paths .table .counted) in
+        place-is (K .all .each d d-in) (few-at K d d-in) (M .target) (M .is-paths) (attributeNode s a) d n
+        ∙ ap (componentAt (schemaOf t) (componentsOf s t f d) (attributeNode s a)) (trivial-at (graphOf (t .graph)) (M .target .acyclic) d d-in)
 
     abbrev family : ℕ → List ℕ
     family x = getD (familiesOf s t f run links d) x []
 
-    read : (x : ℕ) → x < familyCount s t f run links d → valueRow s t tp k (f .attribute) (run .counts) counts table values b x ≡ valueFrom a (homeOf s a) d (family x)
+    read : (x : ℕ) → x < familyCount s t f run links d → valueRow s t paths k (f .attribute) (run .counts) counts table values b x ≡ valueFrom a (attributeNode s a) d (family x)
     read x h =
-        ap (entryOf values (512 * a) (rowsOf (s .node) (run .counts) a)) (entry-is M K L d d-in x h (valuePlace s t tp k a b) ∙ ap (λ (p : ℕ). getD (family x) p 0) place-of)
-        ∙ value-is s run links values a (getD (family x) (componentAt (schemaOf t) (componentsOf s t f d) (homeOf s a) (path d [])) 0) a-in
+        ap (entryOf values (512 * a) (rowsOf (s .node) (run .counts) a)) (entry-is M K L d d-in x h (valuePlace s t paths k a b) ∙ ap (λ (p : ℕ). getD (family x) p 0) place-of)
+        ∙ value-is s run links values a (getD (family x) (componentAt (schemaOf t) (componentsOf s t f d) (attributeNode s a) (path d [])) 0) a-in
 
-    module _ (r : List ℕ) (same : (x : ℕ) → x < rowsOf (t .node) counts b → getD r (512 * b + x) 0 ≡ valueRow s t tp k (f .attribute) (run .counts) counts table values b x) where
+    module _ (r : List ℕ) (same : (x : ℕ) → x < rowsOf (t .node) counts b → getD r (512 * b + x) 0 ≡ valueRow s t paths k (f .attribute) (run .counts) counts table values b x) where
       column-is : columnOf r (512 * b) (rowsOf (t .node) counts b) ≡ map (valueAt (schemaOf s) (schemaOf t) (mappingOf s f) I b) (familiesOf s t f run links (attributeAt (schemaOf t) b .node))
       column-is =
           let n = L .count d d-in in
           tabulate-same (rowsOf (t .node) counts b) (λ x h. same x h ∙ read x (rw n at h))
-          ∙ ap (λ (m : ℕ). tabulate m (λ x. valueFrom a (homeOf s a) d (family x))) n
-          ∙ map-places (valueFrom a (homeOf s a) d) [] (familiesOf s t f run links d)
+          ∙ ap (λ (m : ℕ). tabulate m (λ x. valueFrom a (attributeNode s a) d (family x))) n
+          ∙ map-places (valueFrom a (attributeNode s a) d) [] (familiesOf s t f run links d)
           ∙ ap (λ (c : ℕ). map (valueFrom a c d) (familiesOf s t f run links d)) (ap (λ (x : Attribute). x .node) (sym (attribute-is s a a-in)))
           ∙ ap (λ (x : Attribute). map (valueFrom a (attributeAt (schemaOf s) a .node) (x .node)) (familiesOf s t f run links (x .node))) (sym (attribute-is t b l))
 
-  pub values-are : {o r : List ℕ} → ColumnsStored (t .attributes) (rowsOf (t .node) counts) (valueRow s t tp k (f .attribute) (run .counts) counts table values) o r
+  pub values-are : {o r : List ℕ} → ColumnsStored (t .attributes) (rowsOf (t .node) counts) (valueRow s t paths k (f .attribute) (run .counts) counts table values) o r
       → columnsOf (t .attributes) (rowsOf (t .node) counts) r ≡ pi (schemaOf s) (schemaOf t) (mappingOf s f) I .values
   values-are {r = r} u =
       map-upto (t .attributes) (λ b l. column-is b l r (u .each b l))
       ∙ ap (λ (n : ℕ). map (λ b. map (valueAt (schemaOf s) (schemaOf t) (mappingOf s f) I b) (familiesOf s t f run links (attributeAt (schemaOf t) b .node))) (upto n)) (sym (attributes-count t))
+
+-- ---- values stored row by row
+module _ (s t : Schema) (paths : Paths) (k : Components) (image run counts rows values : List ℕ) (b : ℕ) where
+  pub value-stored : {here : TableRows} {place a n : ℕ} {l r : List ℕ} → here ≡ tableRows counts (k .count) (attributeNode t b) → a ≡ attributeOver s image b → place ≡ valuePlace s t paths k a b → n ≡ rowsOf (s .node) run a
+      → Stored (valueThrough rows here place values (512 * a) n) (here .count) (512 * b) l r → Stored (valueRow s t paths k image run counts rows values b) (rowsOf (t .node) counts b) (512 * b) l r
+  value-stored d e f g u = rw (d, g, f, e) at u

@@ -5,4 +5,4 @@ pub mod Rules
 pub mod Families
 pub mod Links
 pub mod Values
-pub mod Joining
+pub mod Tables

@@ -1,9 +1,9 @@
 // Values of Pi's tables: an attribute is read at the component with its node in S and the trivial path.
 use crate::components::Components;
 use crate::components::place;
-use crate::links::Block;
-use crate::links::block_at;
+use crate::links::TableRows;
 use crate::links::entry;
+use crate::links::table_rows;
 use instance::Instance;
 use instance::decode::rows_of;
 use mapping::Mapping;
@@ -18,18 +18,18 @@ ghost use lib.ListN.{length, getD};
 ghost use Rattle.instance.specs.Decoded.{rowsOf};
 ghost use Rattle.delta.specs.Stored.{Stored, ColumnsStored};
 ghost use Rattle.pi.specs.Links.{entryOf, Within};
-ghost use Rattle.pi.specs.Values.{homeOf, valuePlace, valueThrough, valueRow, Readable};
+ghost use Rattle.pi.specs.Values.{attributeNode, valuePlace, valueThrough, valueRow, Readable};
 
 // The place of attribute a's node with the trivial path, at b's table.
-fn value_place(s: Schema, t: Schema, p: Paths, k: Components, a: usize, b: usize) -> usize
-    requires { ⌜ (a < 16) × (b < 16) × (homeOf t b < 16) × (getD (k .count) (homeOf t b) 0 ≤ 64) ⌝ }
-    ensures { λ r. ⌜ r ≡ valuePlace s t p k a b ⌝ }
+fn value_place(s: Schema, t: Schema, paths: Paths, k: Components, a: usize, b: usize) -> usize
+    requires { ⌜ (a < 16) × (b < 16) × (attributeNode t b < 16) × (getD (k .count) (attributeNode t b) 0 ≤ 64) ⌝ }
+    ensures { λ r. ⌜ r ≡ valuePlace s t paths k a b ⌝ }
 {
     let c = s.node[a];
     let d = wide(t.node[b]);
     let n = k.count[d];
-    let class = p.class[d];
-    place(&k.node, &k.first, 64 * d, n, c, class)
+    let class = paths.class[d];
+    place(&k.node, &k.first, Components::MOST * d, n, c, class)
 }
 
 // Value x of n from base on, or 0 past their end.
@@ -46,7 +46,7 @@ fn value(values: &[u32], base: usize, n: usize, x: usize) -> u32
 // For each row of a table, the value of the row at one place of it, among n values from base on.
 fn value_column(
     rows: &[u16],
-    here: Block,
+    here: TableRows,
     place: usize,
     values: &[u32],
     base: usize,
@@ -59,7 +59,7 @@ fn value_column(
 {
     let mut x = 0;
     while x < here.count {
-        let row = entry(rows, 64 * (here.first + x), here.width, place);
+        let row = entry(rows, Components::MOST * (here.first + x), here.width, place);
         out[at + x] = value(values, base, n, index(row));
         x += 1;
     }
@@ -69,7 +69,7 @@ fn value_column(
 pub fn pi_values(
     s: Schema,
     t: Schema,
-    p: Paths,
+    paths: Paths,
     f: Mapping,
     run: Instance,
     k: Components,
@@ -79,7 +79,7 @@ pub fn pi_values(
     out: &mut [u32],
 )
     requires { ⌜ Readable s t k (f .attribute) (run .counts) (now counts) (now rows) (now values) × (512 * t .attributes ≤ length (now out)) ⌝ }
-    ensures { λ _. ⌜ ColumnsStored (t .attributes) (rowsOf (t .node) (now (counts .entry))) (valueRow s t p k (f .attribute) (run .counts) (now (counts .entry)) (now (rows .entry)) (now (values .entry))) (now (out .entry)) (now (out .exit)) ⌝ }
+    ensures { λ _. ⌜ ColumnsStored (t .attributes) (rowsOf (t .node) (now (counts .entry))) (valueRow s t paths k (f .attribute) (run .counts) (now (counts .entry)) (now (rows .entry)) (now (values .entry))) (now (out .entry)) (now (out .exit)) ⌝ }
 {
     let source = s.node;
     let target = t.node;
@@ -88,10 +88,19 @@ pub fn pi_values(
     let mut b = 0;
     while b < t.attributes {
         let a = attribute_to(&image, s.attributes, b as u8);
-        let here = block_at(counts, k, wide(target[b]));
-        let place = value_place(s, t, p, k, a, b);
+        let here = table_rows(counts, k, wide(target[b]));
+        let place = value_place(s, t, paths, k, a, b);
         let n = rows_of(&source, &read, a);
-        value_column(rows, here, place, values, 512 * a, n, &mut *out, 512 * b);
+        value_column(
+            rows,
+            here,
+            place,
+            values,
+            Instance::ROWS * a,
+            n,
+            &mut *out,
+            Instance::ROWS * b,
+        );
         b += 1;
     }
 }

@@ -12,10 +12,10 @@ use Rattle.pi.proofs.links.places_after.Statement.{statement}
 use Rattle.pi.proofs.links.places_after.Tie as tie
 
 abbrev Inv-loop : tie.InvT-loop
-Inv-loop p e g k n places₀ j₀ places j = Filled 64 (placeAfter g p k e) j places
+Inv-loop paths e g k n places₀ j₀ places j = Filled 64 (placeAfter g paths k e) j places
 
 abbrev μ-loop : tie.MeasureT-loop
-μ-loop p e g k n places₀ j₀ places j = n - j
+μ-loop paths e g k n places₀ j₀ places j = n - j
 
 element-copy-out-wide : tie.Need-element-copy-out-wide Inv-loop μ-loop
 element-copy-out-wide c = search needs

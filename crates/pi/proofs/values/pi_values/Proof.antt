@@ -7,17 +7,17 @@ use lib.ListN.{length}
 use Rattle.instance.specs.Decoded.{rowsOf}
 use Rattle.delta.specs.Stored.{ColumnsStored}
 use Rattle.delta.proofs.Storing.{columns-none, columns-more, columns-done}
-use Rattle.pi.specs.Links.{blockOf}
-use Rattle.pi.specs.Values.{homeOf, valueRow}
-use Rattle.pi.proofs.Reading.{value-stored}
+use Rattle.pi.specs.Links.{tableRows}
+use Rattle.pi.specs.Values.{attributeNode, valueRow}
+use Rattle.pi.proofs.ValueColumns.{value-stored}
 use Rattle.pi.proofs.values.pi_values.Statement.{statement}
 use Rattle.pi.proofs.values.pi_values.Tie as tie
 
 abbrev Inv-loop : tie.InvT-loop
-Inv-loop s t p k counts rows values out₀ source target image read b₀ out b = ColumnsStored b (rowsOf (t .node) counts) (valueRow s t p k image read counts rows values) out₀ out
+Inv-loop s t paths k counts rows values out₀ source target image read b₀ out b = ColumnsStored b (rowsOf (t .node) counts) (valueRow s t paths k image read counts rows values) out₀ out
 
 abbrev μ-loop : tie.MeasureT-loop
-μ-loop s t p k counts rows values out₀ source target image read b₀ out b = t .attributes - b
+μ-loop s t paths k counts rows values out₀ source target image read b₀ out b = t .attributes - b
 
 source-long : (c : tie.Start Inv-loop μ-loop) → length (c .args .s .node) ≡ 16
 source-long c = search needs
@@ -25,8 +25,8 @@ source-long c = search needs
 attribute-low : (c : tie.After-attribute-to Inv-loop μ-loop) → c .attribute-to .result < c .before .before .before .before .before .before .before .before .before .before .before .before .before .args .s .attributes
 attribute-low c = rw (c .attribute-to .ensures) (c .before .before .before .before .before .before .before .before .before .before .before .before .before .pre .0 .attribute-in (c .before .before .before .before .loop .b) (c .before .before .if1 .taken))
 
-here-is : (c : tie.After-block-at Inv-loop μ-loop) → c .block-at .result ≡ blockOf (c .before .before .before .before .before .before .before .before .before .before .before .before .before .before .before .args .counts .now) (c .before .before .before .before .before .before .before .before .before .before .before .before .before .before .before .args .k .count) (homeOf (c .before .before .before .before .before .before .before .before .before .before .before .before .before .before .before .args .t) (c .before .before .before .before .before .before .loop .b))
-here-is c = c .block-at .ensures ∙ ap (blockOf (c .before .before .before .before .before .before .before .before .before .before .before .before .before .before .before .args .counts .now) (c .before .before .before .before .before .before .before .before .before .before .before .before .before .before .before .args .k .count)) (c .before .wide .ensures)
+here-is : (c : tie.After-table-rows Inv-loop μ-loop) → c .table-rows .result ≡ tableRows (c .before .before .before .before .before .before .before .before .before .before .before .before .before .before .before .args .counts .now) (c .before .before .before .before .before .before .before .before .before .before .before .before .before .before .before .args .k .count) (attributeNode (c .before .before .before .before .before .before .before .before .before .before .before .before .before .before .before .args .t) (c .before .before .before .before .before .before .loop .b))
+here-is c = c .table-rows .ensures ∙ ap (tableRows (c .before .before .before .before .before .before .before .before .before .before .before .before .before .before .before .args .counts .now) (c .before .before .before .before .before .before .before .before .before .before .before .before .before .before .before .args .k .count)) (c .before .wide .ensures)
 
 loop-holds : tie.Need-loop-holds Inv-loop μ-loop
 loop-holds c = columns-none _ _ _
@@ -43,8 +43,8 @@ array-read-wide c = omega (arith, c .before .before .if1 .taken, c .before .befo
 wide-requires : tie.Need-wide-requires Inv-loop μ-loop
 wide-requires c κs = search needs
 
-block-at-requires : tie.Need-block-at-requires Inv-loop μ-loop
-block-at-requires c κs = let p = c .before .before .before .before .before .before .before .before .before .before .before .before .before .before .pre .0 in (rw (c .wide .ensures) (p .home-low (c .before .before .before .before .before .loop .b) (c .before .before .before .if1 .taken)), p .long)
+table-rows-requires : tie.Need-table-rows-requires Inv-loop μ-loop
+table-rows-requires c κs = let p = c .before .before .before .before .before .before .before .before .before .before .before .before .before .before .pre .0 in (rw (c .wide .ensures) (p .home-low (c .before .before .before .before .before .loop .b) (c .before .before .before .if1 .taken)), p .long)
 
 value-place-requires : tie.Need-value-place-requires Inv-loop μ-loop
 value-place-requires c κs =
@@ -93,7 +93,7 @@ loop-again c =
     let p = c .before .before .before .before .before .before .before .before .before .before .before .before .before .before .before .before .before .before .before .before .before .before .before .pre .0 in
     let l = c .before .before .before .before .before .before .before .before .before .before .before .before .if1 .taken in
     columns-more (λ j m. p .within j (omega arith) .few) (c .before .before .before .before .before .before .before .before .before .before .before .before .before .before .loop .inv)
-    (value-stored (c .before .before .before .before .before .before .before .before .before .before .before .before .before .before .before .before .before .before .before .before .before .before .before .args .s) (c .before .before .before .before .before .before .before .before .before .before .before .before .before .before .before .before .before .before .before .before .before .before .before .args .t) (c .before .before .before .before .before .before .before .before .before .before .before .before .before .before .before .before .before .before .before .before .before .before .before .args .p) (c .before .before .before .before .before .before .before .before .before .before .before .before .before .before .before .before .before .before .before .before .before .before .before .args .k) (c .before .before .before .before .before .before .before .before .before .before .before .before .before .before .before .before .before .before .before .before .before .before .before .args .f .attribute) (c .before .before .before .before .before .before .before .before .before .before .before .before .before .before .before .before .before .before .before .before .before .before .before .args .run .counts) (c .before .before .before .before .before .before .before .before .before .before .before .before .before .before .before .before .before .before .before .before .before .before .before .args .counts .now) (c .before .before .before .before .before .before .before .before .before .before .before .before .before .before .before .before .before .before .before .before .before .before .before .args .rows .now) (c .before .before .before .before .before .before .before .before .before .before .before .before .before .before .before .before .before .before .before .before .before .before .before .args .values .now) (c .before .before .before .before .before .before .before .before .before .before .before .before .before .before .loop .b) (here-is (c .before .before .before .before .before .before .before .before)) (c .before .before .before .before .before .before .before .before .before .before .attribute-to .ensures) (c .before .before .before .before .before .before .before .value-place .ensures) (c .before .before .before .before .rows-of .ensures) (c .before .before .value-column .ensures))
+    (value-stored (c .before .before .before .before .before .before .before .before .before .before .before .before .before .before .before .before .before .before .before .before .before .before .before .args .s) (c .before .before .before .before .before .before .before .before .before .before .before .before .before .before .before .before .before .before .before .before .before .before .before .args .t) (c .before .before .before .before .before .before .before .before .before .before .before .before .before .before .before .before .before .before .before .before .before .before .before .args .paths) (c .before .before .before .before .before .before .before .before .before .before .before .before .before .before .before .before .before .before .before .before .before .before .before .args .k) (c .before .before .before .before .before .before .before .before .before .before .before .before .before .before .before .before .before .before .before .before .before .before .before .args .f .attribute) (c .before .before .before .before .before .before .before .before .before .before .before .before .before .before .before .before .before .before .before .before .before .before .before .args .run .counts) (c .before .before .before .before .before .before .before .before .before .before .before .before .before .before .before .before .before .before .before .before .before .before .before .args .counts .now) (c .before .before .before .before .before .before .before .before .before .before .before .before .before .before .before .before .before .before .before .before .before .before .before .args .rows .now) (c .before .before .before .before .before .before .before .before .before .before .before .before .before .before .before .before .before .before .before .before .before .before .before .args .values .now) (c .before .before .before .before .before .before .before .before .before .before .before .before .before .before .loop .b) (here-is (c .before .before .before .before .before .before .before .before)) (c .before .before .before .before .before .before .before .before .before .before .attribute-to .ensures) (c .before .before .before .before .before .before .before .value-place .ensures) (c .before .before .before .before .rows-of .ensures) (c .before .before .value-column .ensures))
 
 same-length : tie.Need-same-length Inv-loop μ-loop
 same-length c = c .before .before .loop .inv .long
@@ -112,7 +112,7 @@ pi-values-spec =
     attribute-to-requires
     array-read-wide
     wide-requires
-    block-at-requires
+    table-rows-requires
     value-place-requires
     slice-aggregate-rows-of
     slice-aggregate-rows-of-2

@@ -1,11 +1,11 @@
--- `pi::links::block_at` meets its contract.
+-- `pi::links::table_rows` meets its contract.
 use Prim.Native.Nat.{_+_}
 use mathlib.Core.Path.{_≡_, _∙_}
 use native.Mathlib.Omega.{arith}
 use borrow.Author.Needs.{needs}
 use Rattle.instance.proofs.TableList.{tableAt, laid-at}
-use Rattle.pi.proofs.links.block_at.Statement.{statement}
-use Rattle.pi.proofs.links.block_at.Tie as tie
+use Rattle.pi.proofs.links.table_rows.Statement.{statement}
+use Rattle.pi.proofs.links.table_rows.Tie as tie
 
 add-n : tie.Need-add-n
 add-n c = search needs
@@ -29,7 +29,7 @@ returns c =
     let e : c .before .table-among .result ≡ tableAt (a .counts .now) (a .d) = c .before .table-among .ensures ∙ laid-at (a .counts .now) (a .d + 1) (l .result) (l .ensures) (a .d) (omega arith) in
     rw e
 
-pub block-at-spec : {M : Type 1} → statement M
-block-at-spec =
+pub table-rows-spec : {M : Type 1} → statement M
+table-rows-spec =
     tie.close
     (tie.spec add-n layout-requires table-among-requires mul-t8 element-copy-out-t11 returns)
