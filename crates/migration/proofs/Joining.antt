@@ -14,6 +14,7 @@ use Rattle.meaning.specs.Calls as meaning
 use Rattle.meaning.specs.Calls.{Outcome, accepted, at, ensure, migration, piTables, _>>=_}
 use Rattle.schema.specs.Decoded.{schemaOf}
 use Rattle.schema.specs.Judged.{Sound}
+use Rattle.instance.proofs.Rooms.{room-for}
 use Rattle.mapping.specs.Decoded.{mappingOf}
 use Rattle.instance.specs.Decoded.{firstOf, Room}
 use Rattle.pi.specs.declared.Joined.{Joined}
@@ -106,7 +107,7 @@ module _ (x : Run) (links values : List ℕ) where
               record {
                 mapped = mapped (X .ready none);
                 linked = record { limits = X .limits; room = R .for-links; links-in = X .accepted none .links-in };
-                values-long = R .for-values;
+                values-long = room-for (X .schemas .source) R .for-values;
                 bijective = p .0;
                 gathered = record { all = K; few = p .1 };
               }

@@ -3,7 +3,9 @@ use Prim.Native.Nat.{ℕ, _+_, _*_}
 use mathlib.Core.Bool.{Bool, true, false, cond}
 use mathlib.Core.List.{List}
 use lib.Dec.{eqb}
-use Rattle.meaning.specs.Calls.{Outcome, refused, accepted, _>>=_, Lent}
+use Rattle.meaning.specs.Schema.{Schema}
+use Rattle.meaning.specs.Judge.{judgeInstance}
+use Rattle.meaning.specs.Calls.{Outcome, refused, accepted, _>>=_, at, Lent}
 use Rattle.migration.specs.declared.Refusal.{Refusal}
 use Rattle.migration.specs.declared.Verdict.{Verdict}
 use Rattle.migration.specs.declared.Verdict.the-variants as verdict
@@ -28,6 +30,12 @@ writtenOf (written.Refused r) = refused (r .number) (r .place)
 -- an answer and the tray that it leaves
 abbrev pub lentOf : Written → List ℕ → Lent
 lentOf r tray = record { answer = writtenOf r; tray = tray }
+
+-- an instance sheet at place 2
+abbrev pub checkedSheet : Schema → List ℕ → Outcome (Unit {0})
+checkedSheet S i = do
+  _ ← at 2 (judgeInstance S i)
+  accepted tt
 
 -- ---- for C: an answer as one number
 

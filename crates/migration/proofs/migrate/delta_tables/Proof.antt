@@ -1,5 +1,6 @@
 -- `migration::migrate::delta_tables` meets its contract.
 use mathlib.Core.Path.{sym, ap, _∙_}
+use Rattle.instance.proofs.Rooms.{room-for}
 use Rattle.migration.specs.declared.Refusal.{Refusal}
 use Rattle.migration.proofs.Refusing.{refusal, none-first, none-next}
 use Rattle.migration.proofs.Migrating.{delta-made, delta-stopped}
@@ -17,7 +18,7 @@ slice-aggregate-judge-instance-2 : tie.Need-slice-aggregate-judge-instance-2
 slice-aggregate-judge-instance-2 c = search needs
 
 judge-instance-requires : tie.Need-judge-instance-requires
-judge-instance-requires c κs = search needs
+judge-instance-requires c κs = let T = c .before .before .before .before .«open» .ensures .schemas .target in (T, room-for T (search needs))
 
 or-requires : tie.Need-or-requires
 or-requires c κs = search needs
@@ -35,7 +36,7 @@ delta-requires c κs =
     let r = refusal (i .result .fault) 4 in
     let e = ap (λ (r : Refusal). r .number) (sym (c .before .before .before .before .before .before .before .or .ensures)) ∙ c .before .before .before .before .before .if1 .taken in
     let m = (o .ensures .ready (none-first (o .result .refusal) r e)) .mapping in
-    (record { source = o .ensures .schemas .source; target = o .ensures .schemas .target; short = m .short; fits = m .fits }, i .ensures .limits, i .ensures .accepted (none-next (o .result .refusal) r e) .links-in, search needs, c .before .before .before .before .before .before .before .before .before .before .before .before .before .before .before .before .before .before .before .before .before .before .before .pre)
+    (record { source = o .ensures .schemas .source; target = o .ensures .schemas .target; short = m .short; fits = m .fits }, i .ensures .limits, i .ensures .accepted (none-next (o .result .refusal) r e) .links-in, room-for (o .ensures .schemas .target) (search needs), room-for (o .ensures .schemas .source) (c .before .before .before .before .before .before .before .before .before .before .before .before .before .before .before .before .before .before .before .before .before .before .before .pre))
 
 overfull-requires : tie.Need-overfull-requires
 overfull-requires c κs = (c .before .before .before .before .before .before .before .before .before .before .before .before .before .before .before .before .before .before .before .before .before .«open» .ensures .schemas .source, c .before .before .before .before .delta .ensures .long)

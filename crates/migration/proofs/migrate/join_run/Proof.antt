@@ -1,4 +1,5 @@
 -- `migration::migrate::join_run` meets its contract.
+use Rattle.instance.proofs.Rooms.{room-for}
 use Rattle.migration.proofs.Joining.{joined-made, joined-overfull}
 use borrow.Author.Needs.{needs}
 use Rattle.migration.proofs.migrate.join_run.Statement.{statement}
@@ -8,7 +9,7 @@ slice-aggregate-pi : tie.Need-slice-aggregate-pi
 slice-aggregate-pi c = search needs
 
 pi-requires : tie.Need-pi-requires
-pi-requires c κs = search needs
+pi-requires c κs = let z = c .before .before .before .before .before .before .before .before .before .pre in (z .0, search needs, room-for (z .0 .mapped .target) (z .1))
 
 same-length : tie.Need-same-length
 same-length c = search needs
