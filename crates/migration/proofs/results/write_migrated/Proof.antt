@@ -1,16 +1,15 @@
 -- `migration::results::write_migrated` meets its contract.
 use native.Mathlib.Omega.{arith}
-use Rattle.instance.proofs.Rooms.{room-for}
 use Rattle.migration.proofs.Trays.{migrated-written, migrated-small, migrated-refused}
 use borrow.Author.Needs.{needs}
 use Rattle.migration.proofs.results.write_migrated.Statement.{statement}
 use Rattle.migration.proofs.results.write_migrated.Tie as tie
 
 sheet-length-requires : tie.Need-sheet-length-requires
-sheet-length-requires c κs = let z = c .before .before .before .before .before .before .before .before .pre .0 in (z .sound, z .limits (c .before .before .if1 .taken))
+sheet-length-requires c κs = let z = c .before .before .before .before .before .before .before .before .pre in (z .sound, z .limits (c .before .before .if1 .taken))
 
 write-instance-requires : tie.Need-write-instance-requires
-write-instance-requires c κs = let z = c .before .before .before .before .before .before .before .before .before .before .before .pre in (z .0 .sound, z .0 .limits (c .before .before .before .before .before .if1 .taken), room-for (z .0 .sound) (z .1), omega (arith, c .before .before .sheet-length .ensures))
+write-instance-requires c κs = let z = c .before .before .before .before .before .before .before .before .before .before .before .pre in (z .sound, z .limits (c .before .before .before .before .before .if1 .taken), z .room, omega (arith, c .before .before .sheet-length .ensures))
 
 same-length : tie.Need-same-length
 same-length c = search needs
