@@ -13,8 +13,12 @@ use Rattle.instance.specs.declared.Instance.{Instance}
 use Rattle.instance.specs.Decoded.{tablesOf, judgedInstance}
 use Rattle.mapping.specs.declared.Mapping.{Mapping}
 use Rattle.mapping.specs.Decoded.{mappingOf, judgedMapping}
-use Rattle.migration.specs.Answers.{orNext, outcomeOf}
+use Rattle.migration.specs.declared.Refusal.{Refusal}
+use Rattle.migration.specs.Answers.{checkedSheet, orNext, outcomeOf}
 use Rattle.migration.proofs.Refusing.{refusal, judged-at, then, yields, or-assoc}
+
+pub sheet-checked : (t : Schema) (i : Instance) (links values e : List ℕ) → judgedInstance t i links values ≡ judgeInstance (schemaOf t) e → outcomeOf (refusal (i .fault) 2) tt ≡ checkedSheet (schemaOf t) e
+sheet-checked t i links values e I = yields (refusal (i .fault) 2) (tablesOf t i links values) (judged-at (i .fault) 2 (tablesOf t i links values) I) (λ _. tt)
 
 module _ (t : Schema) (s : List ℕ) (S : judgedSchema t ≡ judgeSchema s) where
   schema-at : outcomeOf (refusal (t .fault) 1) (schemaOf t) ≡ at 1 (judgeSchema s)
@@ -23,12 +27,8 @@ module _ (t : Schema) (s : List ℕ) (S : judgedSchema t ≡ judgeSchema s) wher
   pub schema-checked : outcomeOf (refusal (t .fault) 1) tt ≡ checkSchema s
   schema-checked = yields (refusal (t .fault) 1) (schemaOf t) schema-at (λ _. tt)
 
-  pub instance-checked : (i : Instance) (links values e : List ℕ) → judgedInstance t i links values ≡ judgeInstance (schemaOf t) e → outcomeOf (orNext (refusal (t .fault) 1) (refusal (i .fault) 2)) tt ≡ checkInstance s e
-  instance-checked i links values e I =
-      then (refusal (t .fault) 1) (schemaOf t) schema-at (refusal (i .fault) 2) tt (λ S. do
-        _ ← at 2 (judgeInstance S e)
-        accepted tt)
-      (yields (refusal (i .fault) 2) (tablesOf t i links values) (judged-at (i .fault) 2 (tablesOf t i links values) I) (λ _. tt))
+  pub instance-checked : (r : Refusal) (e : List ℕ) → outcomeOf r tt ≡ checkedSheet (schemaOf t) e → outcomeOf (orNext (refusal (t .fault) 1) r) tt ≡ checkInstance s e
+  instance-checked r e h = then (refusal (t .fault) 1) (schemaOf t) schema-at r tt (λ S. checkedSheet S e) h
 
   pub paths-compared : (a b : JudgedPath) (p q : List ℕ) → judgedPath a ≡ judgePath (graphOf (t .graph)) p → judgedPath b ≡ judgePath (graphOf (t .graph)) q
       → outcomeOf (orNext (orNext (refusal (t .fault) 1) (refusal (a .fault) 2)) (refusal (b .fault) 3)) (equal (schemaOf t) (pathOf (a .path)) (pathOf (b .path))) ≡ samePath s p q

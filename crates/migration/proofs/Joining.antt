@@ -14,6 +14,7 @@ use Rattle.meaning.specs.Calls as meaning
 use Rattle.meaning.specs.Calls.{Outcome, accepted, at, ensure, migration, piTables, _>>=_}
 use Rattle.schema.specs.Decoded.{schemaOf}
 use Rattle.schema.specs.Judged.{Sound}
+use Rattle.instance.proofs.Rooms.{room-for}
 use Rattle.mapping.specs.Decoded.{mappingOf}
 use Rattle.instance.specs.Decoded.{firstOf, Room}
 use Rattle.pi.specs.declared.PiTables.{PiTables}
@@ -53,18 +54,18 @@ module _ (x : Run) (links values : List ℕ) where
   result = record { schema = schemaOf (x .opened .target); tables = tables }
 
   -- Pi's tables, or that there are too many rows
-  module _ (T : Sound (x .opened .target)) {r : PiTables} {found read : List ℕ} (u : GivesPi (x .opened .source) (x .opened .target) (x .opened .mapping) (x .run) links values r found read) where
-    pub joined-made : r .fits ≡ true → Migrates (record { refusal = refusal 0 0; schema = x .opened .target; tables = r .tables }) found read (joinedRun (runInputOf x links values))
+  module _ (T : Sound (x .opened .target)) {r : PiTables} {found read : List ℕ} (R : Room found read) (u : GivesPi (x .opened .source) (x .opened .target) (x .opened .mapping) (x .run) links values r found read) where
+    pub joined-made : r .fits ≡ true → Migrates (record { refusal = refusal 0 0; schema = x .opened .target; tables = r .tables }) found read (joinedRun (runInputOf (x .opened) (x .run) links values))
     joined-made fit =
         let few : leb (sumOf (firstOf (x .opened .target .graph .nodes) (r .tables .counts))) maxRows ≡ true = ap (λ (J : formats.Instance). leb (sumOf (J .counts)) maxRows) (u .says fit) ∙ sym (u .fits) ∙ fit in
-        made T found read (u .long) (ap (λ (b : Bool). cond {A = ℕ} b 0 15) (sym few)) (
+        made T (room-for T R) (u .long) (ap (λ (b : Bool). cond {A = ℕ} b 0 15) (sym few)) (
         ap (λ (J : formats.Instance). outcomeOf (size J) (record { schema = schemaOf (x .opened .target); tables = J })) (u .says fit) ∙
         yields (size tables) tables (sized tables) (λ P. record { schema = schemaOf (x .opened .target); tables = P }))
 
-    pub joined-overfull : r .fits ≡ false → Migrates (record { refusal = refusal 15 0; schema = x .opened .target; tables = r .tables }) found read (joinedRun (runInputOf x links values))
+    pub joined-overfull : r .fits ≡ false → Migrates (record { refusal = refusal 15 0; schema = x .opened .target; tables = r .tables }) found read (joinedRun (runInputOf (x .opened) (x .run) links values))
     joined-overfull fit =
         let many : leb (sumOf (tables .counts)) maxRows ≡ false = sym (u .fits) ∙ fit in
-        stopped T found read result (λ e. omega arith) (
+        stopped T (room-for T R) result (λ e. omega arith) (
         ap (λ (b : Bool). outcomeOf (refusal (cond b 0 15) 0) result) (sym many) ∙
         yields (size tables) tables (sized tables) (λ P. record { schema = schemaOf (x .opened .target); tables = P }))
 
@@ -74,30 +75,30 @@ module _ (x : Run) (links values : List ℕ) where
   abbrev narrow : Bool
   narrow = hasFewComponents (schemaOf (x .opened .source)) (schemaOf (x .opened .target)) (mappingOf (x .opened .source) (x .opened .mapping))
 
-  module _ (s t f i : List ℕ) (X : RunSays x links values (runInput s t f i)) where
+  module _ (s t f i : List ℕ) (X : RunSays x links values (runInput (migration s t f) i)) where
     abbrev both : RunInput → Outcome (Unit {0})
     both y = ensure (isBijective (y .m .T) (y .m .F)) 13 >>= λ _. ensure (hasFewComponents (y .m .S) (y .m .T) (y .m .F)) 14
 
     abbrev rest : RunInput → Outcome meaning.Migrated
     rest y = both y >>= λ _. joinedRun y
 
-    pi-steps : (runInput s t f i >>= rest) ≡ piTables s t f i
+    pi-steps : (runInput (migration s t f) i >>= rest) ≡ piTables s t f i
     pi-steps = bind-assoc (migration s t f) _ rest _ (λ m. bind-assoc (at 4 (judgeInstance (m .S) i)) _ rest _ (λ I. bind-assoc (ensure (isBijective (m .T) (m .F)) 13) _ (λ _. joinedRun (record { m = m; run = I })) _ (λ _. refl)))
 
     -- a sheet was refused
-    pub sheets-stopped : (x .refusal .number ≡ 0 → ⊥) → (l v : List ℕ) → Migrates (record { refusal = x .refusal; schema = x .opened .target; tables = x .run }) l v (piTables s t f i)
-    sheets-stopped some l v = stopped (X .schemas .target) l v result some (stops (x .refusal) (runInputOf x links values) (X .says) result rest some ∙ pi-steps)
+    pub sheets-stopped : (x .refusal .number ≡ 0 → ⊥) → {l v : List ℕ} → Room l v → Migrates (record { refusal = x .refusal; schema = x .opened .target; tables = x .run }) l v (piTables s t f i)
+    sheets-stopped some R = stopped (X .schemas .target) (room-for (X .schemas .target) R) result some (stops (x .refusal) (runInputOf (x .opened) (x .run) links values) (X .says) result rest some ∙ pi-steps)
 
     module _ (none : x .refusal .number ≡ 0) where
-      told : rest (runInputOf x links values) ≡ piTables s t f i
-      told = ap (λ (o : Outcome RunInput). o >>= rest) (sym (no-refusal (x .refusal) (runInputOf x links values) none) ∙ X .says) ∙ pi-steps
+      told : rest (runInputOf (x .opened) (x .run) links values) ≡ piTables s t f i
+      told = ap (λ (o : Outcome RunInput). o >>= rest) (sym (no-refusal (x .refusal) (runInputOf (x .opened) (x .run) links values) none) ∙ X .says) ∙ pi-steps
 
       module _ {n : ℕ} (d : n ≡ cond paired (cond narrow 0 14) 13) where
         -- a test was not passed
-        pub tests-stopped : (n ≡ 0 → ⊥) → (l v : List ℕ) → Migrates (record { refusal = refusal n 0; schema = x .opened .target; tables = x .run }) l v (piTables s t f i)
-        tests-stopped some l v =
-            stopped (X .schemas .target) l v result some (
-            stops (refusal n 0) tt (ap (λ (n : ℕ). outcomeOf (refusal n 0) tt) d ∙ two-tested paired narrow) result (λ _. joinedRun (runInputOf x links values)) some ∙ told)
+        pub tests-stopped : (n ≡ 0 → ⊥) → {l v : List ℕ} → Room l v → Migrates (record { refusal = refusal n 0; schema = x .opened .target; tables = x .run }) l v (piTables s t f i)
+        tests-stopped some R =
+            stopped (X .schemas .target) (room-for (X .schemas .target) R) result some (
+            stops (refusal n 0) tt (ap (λ (n : ℕ). outcomeOf (refusal n 0) tt) d ∙ two-tested paired narrow) result (λ _. joinedRun (runInputOf (x .opened) (x .run) links values)) some ∙ told)
 
         module _ (z : n ≡ 0) where
           pub joinable : {k : Components} → AllComponents (x .opened .source) (x .opened .target) (x .opened .mapping) (x .opened .target .graph .nodes) k → Room links values → JoinableRun x k links values
@@ -106,16 +107,16 @@ module _ (x : Run) (links values : List ℕ) where
               record {
                 mapped = mapped (X .ready none);
                 linked = record { limits = X .limits; room = R .for-links; links-in = X .accepted none .links-in };
-                values-long = R .for-values;
+                values-long = room-for (X .schemas .source) R .for-values;
                 bijective = p .0;
                 gathered = record { all = K; few = p .1 };
               }
 
-          pub tests-joined : {m : Migrated} {l v : List ℕ} → Migrates m l v (joinedRun (runInputOf x links values)) → Migrates m l v (piTables s t f i)
+          pub tests-joined : {m : Migrated} {l v : List ℕ} → Migrates m l v (joinedRun (runInputOf (x .opened) (x .run) links values)) → Migrates m l v (piTables s t f i)
           tests-joined u =
               let p = two-passed paired narrow (sym d ∙ z) in
               record {
-                says = u .says ∙ ap (λ (b : Bool). (ensure true 13 >>= λ _. ensure b 14) >>= λ _. joinedRun (runInputOf x links values)) (sym (p .1))
-                    ∙ ap (λ (b : Bool). (ensure b 13 >>= λ _. ensure narrow 14) >>= λ _. joinedRun (runInputOf x links values)) (sym (p .0)) ∙ told;
+                says = u .says ∙ ap (λ (b : Bool). (ensure true 13 >>= λ _. ensure b 14) >>= λ _. joinedRun (runInputOf (x .opened) (x .run) links values)) (sym (p .1))
+                    ∙ ap (λ (b : Bool). (ensure b 13 >>= λ _. ensure narrow 14) >>= λ _. joinedRun (runInputOf (x .opened) (x .run) links values)) (sym (p .0)) ∙ told;
                 writable = u .writable;
               }

@@ -17,6 +17,7 @@ use Rattle.meaning.specs.Calls as meaning
 use Rattle.meaning.specs.Calls.{Outcome, refused, accepted, _>>=_, judgeRaw, judgePushed}
 use Rattle.instance.specs.declared.Instance.{Instance}
 use Rattle.instance.specs.Decoded.{firstOf, tablesOf, Room}
+use Rattle.instance.proofs.Rooms.{room-for}
 use Rattle.delta.specs.Pulled.{deltaOf, Pulled}
 use Rattle.sigma.specs.Pushed.{Pushed}
 use Rattle.matching.specs.Compared.{partnersOf, Comparable}
@@ -75,8 +76,8 @@ module _ {x : Sides} {links values links′ values′ : List ℕ} (M : Migratabl
       sound = M .ready .schemas .target;
       limits = record { rows = subst (λ (J : formats.Instance). sumOf (J .counts) ≤ 512) (sym (P .says)) (pushed-valid M .few-rows); long = P .long };
       limits′ = M .book-limits;
-      room = r;
-      room′ = r′;
+      room = room-for (M .ready .schemas .target) r;
+      room′ = room-for (M .ready .schemas .target) r′;
       links-in = subst (λ (J : formats.Instance). linksInRange (y .m .T) J ≡ true) (sym (P .says)) (pushed-links-in M);
       long = l;
     }

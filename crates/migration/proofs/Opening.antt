@@ -6,7 +6,7 @@ use mathlib.Core.List.{List}
 use native.Mathlib.Omega.{arith}
 use Rattle.meaning.specs.Judge.{judgeInstance}
 use Rattle.meaning.specs.Evenness.{even}
-use Rattle.meaning.specs.Calls.{accepted, at, ensure, migration, _>>=_}
+use Rattle.meaning.specs.Calls.{Outcome, accepted, at, ensure, Migration, migration, _>>=_}
 use Rattle.schema.specs.Decoded.{schemaOf}
 use Rattle.mapping.specs.Decoded.{mappingOf}
 use Rattle.instance.specs.declared.Instance.{Instance}
@@ -15,8 +15,8 @@ use Rattle.instance.specs.Tested.{Tested}
 use Rattle.migration.specs.declared.Refusal.{Refusal}
 use Rattle.migration.specs.declared.open.Opened.{Opened}
 use Rattle.migration.specs.Answers.{orNext, outcomeOf}
-use Rattle.migration.specs.Opened.{migrationOf, Ready, Opens}
-use Rattle.migration.specs.Runs.{RunInput, runInput, RunSays}
+use Rattle.migration.specs.Opened.{migrationOf, Ready, Opens, IsOpened}
+use Rattle.migration.specs.Runs.{RunInput, runInput, runInputOf, RunSays}
 use Rattle.migration.specs.Sides.{Inputs, inputs, SidesSay}
 use Rattle.migration.proofs.Refusing.{refusal, judged-at, then, yields, tested, or-none, or-some, or-assoc, none-first, none-next}
 
@@ -25,12 +25,16 @@ pub passed : (b : Bool) (n : ℕ) → (n ≡ 0 → ⊥) → cond b 0 n ≡ 0 →
 passed true n some e = refl
 passed false n some e = absurd (some e)
 
--- ---- a mapping and a run
-module _ (o : Opened) (s t f : List ℕ) (O : Opens o (migration s t f)) (run : Instance) (links values i : List ℕ) (I : Tested (o .source) run links values (judgeInstance (schemaOf (o .source)) i)) where
-  abbrev run-input : RunInput
-  run-input = record { m = migrationOf o; run = tablesOf (o .source) run links values }
+-- what opened sheets say
+pub is-opened : {o : Opened} {M : Outcome Migration} → Opens o M → IsOpened o
+is-opened O = record { says = refl; schemas = O .schemas; ready = O .ready }
 
-  pub run-open : {r : Refusal} → r ≡ orNext (o .refusal) (refusal (run .fault) 4) → RunSays (record { refusal = r; opened = o; run = run }) links values (runInput s t f i)
+-- ---- a mapping and a run
+module _ (o : Opened) {M : Outcome Migration} (O : Opens o M) (run : Instance) (links values i : List ℕ) (I : Tested (o .source) run links values (judgeInstance (schemaOf (o .source)) i)) where
+  abbrev run-input : RunInput
+  run-input = runInputOf o run links values
+
+  pub run-open : {r : Refusal} → r ≡ orNext (o .refusal) (refusal (run .fault) 4) → RunSays (record { refusal = r; opened = o; run = run }) links values (runInput M i)
   run-open {r} e = record {
     says = ap (λ (r : Refusal). outcomeOf r run-input) e ∙
         then (o .refusal) (migrationOf o) (O .says) (refusal (run .fault) 4) run-input (λ m. do

@@ -4,7 +4,9 @@ use mathlib.Core.Path.{_≡_}
 use mathlib.Core.Bool.{Bool, true, false, cond}
 use mathlib.Core.List.{List}
 use lib.Dec.{eqb}
-use Rattle.meaning.specs.Calls.{Outcome, refused, accepted, _>>=_, checkPushed, checkRaw, pushedToRaw, rawToPushed, Lent, inTray}
+use Rattle.meaning.specs.Schema.{Schema}
+use Rattle.meaning.specs.Judge.{judgeInstance}
+use Rattle.meaning.specs.Calls.{Outcome, refused, accepted, _>>=_, at, checkPushed, checkRaw, pushedToRaw, rawToPushed, Lent, inTray}
 use Rattle.migration.specs.declared.Refusal.{Refusal}
 use Rattle.migration.specs.declared.Verdict.{Verdict}
 use Rattle.migration.specs.declared.Verdict.the-variants as verdict
@@ -29,6 +31,12 @@ writtenOf (written.Refused r) = refused (r .number) (r .place)
 -- an answer and the tray that it leaves
 abbrev pub lentOf : Written → List ℕ → Lent
 lentOf r tray = record { answer = writtenOf r; tray = tray }
+
+-- an instance sheet at place 2
+abbrev pub checkedSheet : Schema → List ℕ → Outcome (Unit {0})
+checkedSheet S i = do
+  _ ← at 2 (judgeInstance S i)
+  accepted tt
 
 -- ---- what the checkers and the turnings promise, of the sheets s, t, f, run, book and list
 

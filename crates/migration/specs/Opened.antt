@@ -1,14 +1,20 @@
 -- What the judges of S, T and the mapping give together.
 use mathlib.Core.Path.{_≡_}
+use mathlib.Core.Bool.{Bool, _&&_}
 use Rattle.meaning.specs.Calls.{Outcome, Migration}
 use Rattle.schema.specs.Decoded.{schemaOf}
 use Rattle.mapping.specs.Decoded.{mappingOf}
 use Rattle.mapping.specs.Judged.{Schemas, Sound}
+use Rattle.instance.specs.Decoded as instance
 use Rattle.migration.specs.declared.open.Opened.{Opened}
 use Rattle.migration.specs.Answers.{outcomeOf}
 
 abbrev pub migrationOf : Opened → Migration
 migrationOf o = record { S = schemaOf (o .source); T = schemaOf (o .target); F = mappingOf (o .source) (o .mapping) }
+
+-- what the three sheets say together
+abbrev pub openedOf : Opened → Outcome Migration
+openedOf o = outcomeOf (o .refusal) (migrationOf o)
 
 -- what a migration relies on
 pub record Ready (o : Opened) : Type 0 where
@@ -16,6 +22,14 @@ pub record Ready (o : Opened) : Type 0 where
   pub mapping : Sound (o .source) (o .target) (o .«source_paths») (o .mapping)
 
 pub record Opens (o : Opened) (M : Outcome Migration) : Type 0 where
-  pub says : outcomeOf (o .refusal) (migrationOf o) ≡ M
+  pub says : openedOf o ≡ M
   pub schemas : Schemas (o .source) (o .target) (o .«source_paths») (o .«target_paths»)
   pub ready : (o .refusal .number ≡ 0 → Ready o)
+
+-- what opening gives, whatever was lent
+abbrev pub IsOpened : Opened → Type 0
+IsOpened o = Opens o (openedOf o)
+
+-- both schemas have few columns
+abbrev pub haveFewColumns : Opened → Bool
+haveFewColumns o = instance.hasFewColumns (o .source) && instance.hasFewColumns (o .target)

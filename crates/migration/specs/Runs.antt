@@ -4,16 +4,19 @@ use mathlib.Core.Path.{_≡_}
 use mathlib.Core.List.{List}
 use Rattle.meaning.specs.Formats as formats
 use Rattle.meaning.specs.Judge.{judgeInstance}
+use Rattle.meaning.specs.Evenness.{even}
 use Rattle.meaning.specs.Sigma.{sigma}
 use Rattle.meaning.specs.Pi.{pi}
 use Rattle.meaning.specs.Calls as meaning
-use Rattle.meaning.specs.Calls.{Outcome, accepted, _>>=_, at, ensureFits, Migration, migration}
+use Rattle.meaning.specs.Calls.{Outcome, accepted, _>>=_, at, ensure, ensureFits, Migration}
 use Rattle.mapping.specs.Judged.{Schemas}
+use Rattle.instance.specs.declared.Instance.{Instance}
 use Rattle.instance.specs.Decoded.{tablesOf, Limits}
 use Rattle.instance.specs.Tested.{Accepted}
 use Rattle.sigma.specs.Pushed.{Pushable}
 use Rattle.pi.specs.declared.components.Components.{Components}
 use Rattle.pi.specs.Tables.{PiReady}
+use Rattle.migration.specs.declared.open.Opened.{Opened}
 use Rattle.migration.specs.declared.runs.Run.{Run}
 use Rattle.migration.specs.Answers.{outcomeOf}
 use Rattle.migration.specs.Opened.{migrationOf, Ready}
@@ -23,9 +26,9 @@ pub record RunInput : Type 0 where
   pub m : Migration
   pub run : formats.Instance
 
-abbrev pub runInput : List ℕ → List ℕ → List ℕ → List ℕ → Outcome RunInput
-runInput s t f i = do
-  m ← migration s t f
+abbrev pub runInput : Outcome Migration → List ℕ → Outcome RunInput
+runInput M i = do
+  m ← M
   I ← at 4 (judgeInstance (m .S) i)
   accepted (record { m = m; run = I })
 
@@ -35,6 +38,13 @@ pushedRun y = do
   P ← ensureFits (sigma (y .m .S) (y .m .T) (y .m .F) (y .run))
   accepted (record { schema = y .m .T; tables = P })
 
+-- the test of evenness, then Sigma
+abbrev pub evenlyPushed : Outcome RunInput → Outcome meaning.Migrated
+evenlyPushed X = do
+  y ← X
+  _ ← ensure (even (y .m .S) (y .m .T) (y .m .F)) 12
+  pushedRun y
+
 -- Pi of the run, and its size
 abbrev pub joinedRun : RunInput → Outcome meaning.Migrated
 joinedRun y = do
@@ -43,19 +53,19 @@ joinedRun y = do
 
 -- ---- in working arrays: the run's links and values
 
-abbrev pub runInputOf : Run → List ℕ → List ℕ → RunInput
-runInputOf x links values = record { m = migrationOf (x .opened); run = tablesOf (x .opened .source) (x .run) links values }
+abbrev pub runInputOf : Opened → Instance → List ℕ → List ℕ → RunInput
+runInputOf o run links values = record { m = migrationOf o; run = tablesOf (o .source) run links values }
 
 pub record RunSays (x : Run) (links values : List ℕ) (X : Outcome RunInput) : Type 0 where
-  pub says : outcomeOf (x .refusal) (runInputOf x links values) ≡ X
+  pub says : outcomeOf (x .refusal) (runInputOf (x .opened) (x .run) links values) ≡ X
   pub schemas : Schemas (x .opened .source) (x .opened .target) (x .opened .«source_paths») (x .opened .«target_paths»)
   pub limits : Limits (x .opened .source) (x .run)
   pub ready : (x .refusal .number ≡ 0 → Ready (x .opened))
   pub accepted : (x .refusal .number ≡ 0 → Accepted (x .opened .source) (x .run) links values)
 
 -- what Sigma relies on
-abbrev pub PushableRun : Run → List ℕ → List ℕ → Type 0
-PushableRun x = Pushable (x .opened .source) (x .opened .target) (x .opened .«source_paths») (x .opened .«target_paths») (x .opened .mapping) (x .run)
+abbrev pub PushableRun : Opened → Instance → List ℕ → List ℕ → Type 0
+PushableRun o = Pushable (o .source) (o .target) (o .«source_paths») (o .«target_paths») (o .mapping)
 
 -- what Pi relies on
 abbrev pub JoinableRun : Run → Components → List ℕ → List ℕ → Type 0

@@ -6,13 +6,19 @@ use crate::matchings::Side;
 use crate::matchings::match_side;
 use crate::open::open;
 use instance::Instance;
+use instance::has_few_columns;
 use instance::judge_instance;
+use schema::Schema;
 use schema::equal;
 use schema::judge_path;
 use schema::judge_schema;
 ghost use mathlib.Core.Path.{_≡_};
+ghost use mathlib.Core.Bool.{true};
 ghost use Rattle.meaning.specs.Calls.{checkSchema, checkMapping, checkInstance, samePath};
-ghost use Rattle.migration.specs.Answers.{outcomeOf, verdictOf, equalityOf, PushedChecked, RawChecked};
+ghost use Rattle.schema.specs.Decoded.{schemaOf};
+ghost use Rattle.schema.specs.Judged.{Sound};
+ghost use Rattle.instance.specs.Decoded.{hasFewColumns};
+ghost use Rattle.migration.specs.Answers.{checkedSheet, outcomeOf, verdictOf, equalityOf, PushedChecked, RawChecked};
 
 fn verdict(refusal: Refusal) -> Verdict
     ensures { λ r. ⌜ verdictOf r ≡ outcomeOf refusal tt ⌝ }
@@ -43,19 +49,56 @@ pub fn check_mapping(s: &[u8], t: &[u8], f: &[u8]) -> Verdict
     verdict(refusal)
 }
 
+// The refusal of an instance sheet at place 2, for a schema with few columns.
+fn refusal_of_few(schema: Schema, i: &[u8]) -> Refusal
+    requires { ⌜ Sound schema × (hasFewColumns schema ≡ true) ⌝ }
+    ensures { λ r. ⌜ outcomeOf r tt ≡ checkedSheet (schemaOf schema) (now (i .entry)) ⌝ }
+{
+    let mut links = [0u32; Instance::FEW_LINKS];
+    let mut values = [0u32; Instance::FEW_VALUES];
+    let instance = judge_instance(schema, i, &mut links, &mut values);
+    Refusal {
+        number: instance.fault,
+        place: 2,
+    }
+}
+
+// The same for any schema.
+fn refusal_of_any(schema: Schema, i: &[u8]) -> Refusal
+    requires { ⌜ Sound schema ⌝ }
+    ensures { λ r. ⌜ outcomeOf r tt ≡ checkedSheet (schemaOf schema) (now (i .entry)) ⌝ }
+{
+    let mut links = [0u32; Instance::LINKS];
+    let mut values = [0u32; Instance::VALUES];
+    let instance = judge_instance(schema, i, &mut links, &mut values);
+    Refusal {
+        number: instance.fault,
+        place: 2,
+    }
+}
+
+// The same, in working arrays of a length that does.
+fn instance_refusal(schema: Schema, i: &[u8]) -> Refusal
+    requires { ⌜ Sound schema ⌝ }
+    ensures { λ r. ⌜ outcomeOf r tt ≡ checkedSheet (schemaOf schema) (now (i .entry)) ⌝ }
+{
+    if has_few_columns(schema) {
+        return refusal_of_few(schema, i);
+    }
+    refusal_of_any(schema, i)
+}
+
 // Whether i is an instance of the schema s. Refuses with 1 to 6 at the place of s, and with 1, 2, 3, 9, 10 and 11 at that of i.
 pub fn check_instance(s: &[u8], i: &[u8]) -> Verdict
     ensures { λ r. ⌜ verdictOf r ≡ checkInstance (now (s .entry)) (now (i .entry)) ⌝ }
 {
-    let mut links = [0u32; Instance::LINKS];
-    let mut values = [0u32; Instance::VALUES];
     let schema = judge_schema(s);
-    let instance = judge_instance(schema, i, &mut links, &mut values);
     let first = Refusal {
         number: schema.fault,
         place: 1,
     };
-    verdict(first.or(instance.fault, 2))
+    let second = instance_refusal(schema, i);
+    verdict(first.or(second.number, second.place))
 }
 
 // Whether the paths p and q of the schema s are equal. Refuses with 1 to 6 at the place of s, and with 1, 2 and 4 at those of p and q.

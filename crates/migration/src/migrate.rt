@@ -2,6 +2,7 @@
 use crate::Refusal;
 use crate::Written;
 use crate::open::Opened;
+use crate::open::have_few_columns;
 use crate::open::open;
 use crate::open::uneven;
 use crate::results::Migrated;
@@ -16,36 +17,33 @@ use pi::components::Components;
 use pi::gather::components;
 use pi::gather::has_few_components;
 ghost use mathlib.Core.Path.{_≡_};
-ghost use mathlib.Core.Bool.{cond};
+ghost use mathlib.Core.Bool.{true, cond};
 ghost use Rattle.meaning.specs.Calls.{deltaTables, sigmaTables, piTables, sheetOf, inTray};
 ghost use Rattle.meaning.specs.Pi.{isBijective, hasFewComponents};
 ghost use Rattle.schema.specs.Decoded.{schemaOf};
 ghost use Rattle.mapping.specs.Decoded.{mappingOf};
-ghost use Rattle.instance.specs.Decoded.{Room};
+ghost use Rattle.instance.specs.Decoded.{Room, RoomFor};
 ghost use Rattle.pi.specs.Components.{AllComponents};
 ghost use Rattle.migration.specs.Answers.{lentOf};
-ghost use Rattle.migration.specs.Migrated.{Migrates};
-ghost use Rattle.migration.specs.Opened.{Ready};
-ghost use Rattle.migration.specs.Runs.{runInputOf, pushedRun, PushableRun, joinedRun, JoinableRun};
+ghost use Rattle.migration.specs.Migrated.{pulledBook, Migrates};
+ghost use Rattle.migration.specs.Opened.{openedOf, haveFewColumns, IsOpened, Ready};
+ghost use Rattle.migration.specs.Runs.{runInput, evenlyPushed, runInputOf, pushedRun, PushableRun, joinedRun, JoinableRun};
 
-// Delta's tables in working arrays.
+// Delta's tables of a book, in working arrays.
 fn delta_tables(
-    s: &[u8],
-    t: &[u8],
-    f: &[u8],
+    opened: Opened,
     j: &[u8],
+    book_links: &mut [u32],
+    book_values: &mut [u32],
     links: &mut [u32],
     values: &mut [u32],
 ) -> Migrated
-    requires { ⌜ Room (now links) (now values) ⌝ }
-    ensures { λ r. ⌜ Migrates r (now (links .exit)) (now (values .exit)) (deltaTables (now (s .entry)) (now (t .entry)) (now (f .entry)) (now (j .entry))) ⌝ }
+    requires { ⌜ IsOpened opened × RoomFor (opened .target) (now «book_links») (now «book_values») × RoomFor (opened .source) (now links) (now values) ⌝ }
+    ensures { λ r. ⌜ Migrates r (now (links .exit)) (now (values .exit)) (pulledBook (openedOf opened) (now (j .entry))) ⌝ }
 {
-    let mut book_links = [0u32; Instance::LINKS];
-    let mut book_values = [0u32; Instance::VALUES];
-    let opened = open(s, t, f);
     let source = opened.source;
     let target = opened.target;
-    let book = judge_instance(target, j, &mut book_links, &mut book_values);
+    let book = judge_instance(target, j, &mut *book_links, &mut *book_values);
     let first = opened.refusal;
     let refusal = first.or(book.fault, 4);
     if refusal.number == 0 {
@@ -55,8 +53,8 @@ fn delta_tables(
             target,
             mapping,
             book,
-            &book_links,
-            &book_values,
+            &*book_links,
+            &*book_values,
             &mut *links,
             &mut *values,
         );
@@ -77,31 +75,95 @@ fn delta_tables(
     }
 }
 
+// Writes Delta of a book.
+fn write_delta(
+    opened: Opened,
+    j: &[u8],
+    book_links: &mut [u32],
+    book_values: &mut [u32],
+    links: &mut [u32],
+    values: &mut [u32],
+    tray: &mut [u8],
+) -> Written
+    requires { ⌜ IsOpened opened × RoomFor (opened .target) (now «book_links») (now «book_values») × RoomFor (opened .source) (now links) (now values) ⌝ }
+    ensures { λ r. ⌜ lentOf r (now (tray .exit)) ≡ inTray (now (tray .entry)) (sheetOf (pulledBook (openedOf opened) (now (j .entry)))) ⌝ }
+{
+    let migrated = delta_tables(
+        opened,
+        j,
+        &mut *book_links,
+        &mut *book_values,
+        &mut *links,
+        &mut *values,
+    );
+    write_migrated(migrated, &*links, &*values, &mut *tray)
+}
+
+// The same for schemas with few columns.
+fn delta_of_few(opened: Opened, j: &[u8], tray: &mut [u8]) -> Written
+    requires { ⌜ IsOpened opened × (haveFewColumns opened ≡ true) ⌝ }
+    ensures { λ r. ⌜ lentOf r (now (tray .exit)) ≡ inTray (now (tray .entry)) (sheetOf (pulledBook (openedOf opened) (now (j .entry)))) ⌝ }
+{
+    let mut book_links = [0u32; Instance::FEW_LINKS];
+    let mut book_values = [0u32; Instance::FEW_VALUES];
+    let mut links = [0u32; Instance::FEW_LINKS];
+    let mut values = [0u32; Instance::FEW_VALUES];
+    write_delta(
+        opened,
+        j,
+        &mut book_links,
+        &mut book_values,
+        &mut links,
+        &mut values,
+        &mut *tray,
+    )
+}
+
+// The same for any schemas.
+fn delta_of_any(opened: Opened, j: &[u8], tray: &mut [u8]) -> Written
+    requires { ⌜ IsOpened opened ⌝ }
+    ensures { λ r. ⌜ lentOf r (now (tray .exit)) ≡ inTray (now (tray .entry)) (sheetOf (pulledBook (openedOf opened) (now (j .entry)))) ⌝ }
+{
+    let mut book_links = [0u32; Instance::LINKS];
+    let mut book_values = [0u32; Instance::VALUES];
+    let mut links = [0u32; Instance::LINKS];
+    let mut values = [0u32; Instance::VALUES];
+    write_delta(
+        opened,
+        j,
+        &mut book_links,
+        &mut book_values,
+        &mut links,
+        &mut values,
+        &mut *tray,
+    )
+}
+
 // Delta: writes the instance of s that the mapping f from s to t makes of the instance j of t. Refuses with 1 to 6 at the places of s and t,
 // with 1, 2, 7 and 8 at that of f, with 1, 2, 3, 9, 10 and 11 at that of j, and with 15 and 16 at place 0.
 pub fn delta(s: &[u8], t: &[u8], f: &[u8], j: &[u8], tray: &mut [u8]) -> Written
     ensures { λ r. ⌜ lentOf r (now (tray .exit)) ≡ inTray (now (tray .entry)) (sheetOf (deltaTables (now (s .entry)) (now (t .entry)) (now (f .entry)) (now (j .entry)))) ⌝ }
 {
-    let mut links = [0u32; Instance::LINKS];
-    let mut values = [0u32; Instance::VALUES];
-    let migrated = delta_tables(s, t, f, j, &mut links, &mut values);
-    write_migrated(migrated, &links, &values, &mut *tray)
+    let opened = open(s, t, f);
+    if have_few_columns(opened) {
+        return delta_of_few(opened, j, &mut *tray);
+    }
+    delta_of_any(opened, j, &mut *tray)
 }
 
 // Sigma's tables of a run along an even mapping.
 fn push_run(
-    x: Run,
+    opened: Opened,
+    run: Instance,
     run_links: &[u32],
     run_values: &[u32],
     links: &mut [u32],
     values: &mut [u32],
 ) -> Migrated
-    requires { ⌜ PushableRun x (now «run_links») (now «run_values») × Room (now «run_links») (now «run_values») × Room (now links) (now values) ⌝ }
-    ensures { λ r. ⌜ Migrates r (now (links .exit)) (now (values .exit)) (pushedRun (runInputOf x (now («run_links» .entry)) (now («run_values» .entry)))) ⌝ }
+    requires { ⌜ PushableRun opened run (now «run_links») (now «run_values») × RoomFor (opened .source) (now «run_links») (now «run_values») × RoomFor (opened .target) (now links) (now values) ⌝ }
+    ensures { λ r. ⌜ Migrates r (now (links .exit)) (now (values .exit)) (pushedRun (runInputOf opened run (now («run_links» .entry)) (now («run_values» .entry)))) ⌝ }
 {
-    let opened = x.opened;
     let target = opened.target;
-    let run = x.run;
     let pushed = sigma::sigma(
         opened.source,
         target,
@@ -125,32 +187,37 @@ fn push_run(
     }
 }
 
-// Sigma's tables in working arrays.
+// Sigma's tables of a run, in working arrays.
 pub(crate) fn sigma_tables(
-    s: &[u8],
-    t: &[u8],
-    f: &[u8],
+    opened: Opened,
     i: &[u8],
+    run_links: &mut [u32],
+    run_values: &mut [u32],
     links: &mut [u32],
     values: &mut [u32],
 ) -> Migrated
-    requires { ⌜ Room (now links) (now values) ⌝ }
-    ensures { λ r. ⌜ Migrates r (now (links .exit)) (now (values .exit)) (sigmaTables (now (s .entry)) (now (t .entry)) (now (f .entry)) (now (i .entry))) ⌝ }
+    requires { ⌜ IsOpened opened × RoomFor (opened .source) (now «run_links») (now «run_values») × RoomFor (opened .target) (now links) (now values) ⌝ }
+    ensures { λ r. ⌜ Migrates r (now (links .exit)) (now (values .exit)) (evenlyPushed (runInput (openedOf opened) (now (i .entry)))) ⌝ }
 {
-    let mut run_links = [0u32; Instance::LINKS];
-    let mut run_values = [0u32; Instance::VALUES];
-    let x = open_run(s, t, f, i, &mut run_links, &mut run_values);
-    let opened = x.opened;
+    let source = opened.source;
     let target = opened.target;
-    let run = x.run;
-    let sheets = x.refusal;
+    let run = judge_instance(source, i, &mut *run_links, &mut *run_values);
+    let first = opened.refusal;
+    let sheets = first.or(run.fault, 4);
     if sheets.number == 0 {
         let evenness = Refusal {
             number: uneven(opened),
             place: 0,
         };
         if evenness.number == 0 {
-            return push_run(x, &run_links, &run_values, &mut *links, &mut *values);
+            return push_run(
+                opened,
+                run,
+                &*run_links,
+                &*run_values,
+                &mut *links,
+                &mut *values,
+            );
         }
         return Migrated {
             refusal: evenness,
@@ -165,15 +232,80 @@ pub(crate) fn sigma_tables(
     }
 }
 
+// Writes Sigma of a run.
+fn write_sigma(
+    opened: Opened,
+    i: &[u8],
+    run_links: &mut [u32],
+    run_values: &mut [u32],
+    links: &mut [u32],
+    values: &mut [u32],
+    tray: &mut [u8],
+) -> Written
+    requires { ⌜ IsOpened opened × RoomFor (opened .source) (now «run_links») (now «run_values») × RoomFor (opened .target) (now links) (now values) ⌝ }
+    ensures { λ r. ⌜ lentOf r (now (tray .exit)) ≡ inTray (now (tray .entry)) (sheetOf (evenlyPushed (runInput (openedOf opened) (now (i .entry))))) ⌝ }
+{
+    let migrated = sigma_tables(
+        opened,
+        i,
+        &mut *run_links,
+        &mut *run_values,
+        &mut *links,
+        &mut *values,
+    );
+    write_migrated(migrated, &*links, &*values, &mut *tray)
+}
+
+// The same for schemas with few columns.
+fn sigma_of_few(opened: Opened, i: &[u8], tray: &mut [u8]) -> Written
+    requires { ⌜ IsOpened opened × (haveFewColumns opened ≡ true) ⌝ }
+    ensures { λ r. ⌜ lentOf r (now (tray .exit)) ≡ inTray (now (tray .entry)) (sheetOf (evenlyPushed (runInput (openedOf opened) (now (i .entry))))) ⌝ }
+{
+    let mut run_links = [0u32; Instance::FEW_LINKS];
+    let mut run_values = [0u32; Instance::FEW_VALUES];
+    let mut links = [0u32; Instance::FEW_LINKS];
+    let mut values = [0u32; Instance::FEW_VALUES];
+    write_sigma(
+        opened,
+        i,
+        &mut run_links,
+        &mut run_values,
+        &mut links,
+        &mut values,
+        &mut *tray,
+    )
+}
+
+// The same for any schemas.
+fn sigma_of_any(opened: Opened, i: &[u8], tray: &mut [u8]) -> Written
+    requires { ⌜ IsOpened opened ⌝ }
+    ensures { λ r. ⌜ lentOf r (now (tray .exit)) ≡ inTray (now (tray .entry)) (sheetOf (evenlyPushed (runInput (openedOf opened) (now (i .entry))))) ⌝ }
+{
+    let mut run_links = [0u32; Instance::LINKS];
+    let mut run_values = [0u32; Instance::VALUES];
+    let mut links = [0u32; Instance::LINKS];
+    let mut values = [0u32; Instance::VALUES];
+    write_sigma(
+        opened,
+        i,
+        &mut run_links,
+        &mut run_values,
+        &mut links,
+        &mut values,
+        &mut *tray,
+    )
+}
+
 // Sigma: writes the instance of t that the even mapping f from s to t makes of the instance i of s. Refuses with 1 to 6 at the places of s and t,
 // with 1, 2, 7 and 8 at that of f, with 1, 2, 3, 9, 10 and 11 at that of i, and with 12 and 16 at place 0.
 pub fn sigma(s: &[u8], t: &[u8], f: &[u8], i: &[u8], tray: &mut [u8]) -> Written
     ensures { λ r. ⌜ lentOf r (now (tray .exit)) ≡ inTray (now (tray .entry)) (sheetOf (sigmaTables (now (s .entry)) (now (t .entry)) (now (f .entry)) (now (i .entry)))) ⌝ }
 {
-    let mut links = [0u32; Instance::LINKS];
-    let mut values = [0u32; Instance::VALUES];
-    let migrated = sigma_tables(s, t, f, i, &mut links, &mut values);
-    write_migrated(migrated, &links, &values, &mut *tray)
+    let opened = open(s, t, f);
+    if have_few_columns(opened) {
+        return sigma_of_few(opened, i, &mut *tray);
+    }
+    sigma_of_any(opened, i, &mut *tray)
 }
 
 // 13 where the attribute mapping is not a bijection, 14 where a table has too many components, else 0.
@@ -202,7 +334,7 @@ fn join_run(
     values: &mut [u32],
 ) -> Migrated
     requires { ⌜ JoinableRun x k (now «run_links») (now «run_values») × Room (now links) (now values) ⌝ }
-    ensures { λ r. ⌜ Migrates r (now (links .exit)) (now (values .exit)) (joinedRun (runInputOf x (now («run_links» .entry)) (now («run_values» .entry)))) ⌝ }
+    ensures { λ r. ⌜ Migrates r (now (links .exit)) (now (values .exit)) (joinedRun (runInputOf (x .opened) (x .run) (now («run_links» .entry)) (now («run_values» .entry)))) ⌝ }
 {
     let mut rows = [0u16; 32768];
     let opened = x.opened;

@@ -1,5 +1,6 @@
 // The sheets of S, T and a mapping, which every migration opens first.
 use crate::Refusal;
+use instance::has_few_columns;
 use mapping::Mapping;
 use mapping::even::is_even;
 use mapping::judge_mapping;
@@ -13,7 +14,7 @@ ghost use Rattle.meaning.specs.Evenness.{even};
 ghost use Rattle.meaning.specs.Calls.{migration};
 ghost use Rattle.schema.specs.Decoded.{schemaOf};
 ghost use Rattle.mapping.specs.Decoded.{mappingOf};
-ghost use Rattle.migration.specs.Opened.{Opens, Ready};
+ghost use Rattle.migration.specs.Opened.{haveFewColumns, Opens, Ready};
 
 // What the three sheets say, where the refusal's number is 0. A schema that was sent back has no nodes.
 pub struct Opened {
@@ -47,6 +48,16 @@ pub(crate) fn open(s: &[u8], t: &[u8], f: &[u8]) -> Opened
         target_paths: target_paths,
         mapping: mapping,
     }
+}
+
+// Whether both schemas have few columns.
+pub(crate) fn have_few_columns(opened: Opened) -> bool
+    ensures { λ r. ⌜ r ≡ haveFewColumns opened ⌝ }
+{
+    if has_few_columns(opened.source) {
+        return has_few_columns(opened.target);
+    }
+    false
 }
 
 // 12 where the mapping is not even, else 0.

@@ -1,5 +1,6 @@
 // The push program's work: from the bytes that it reads to the text that it prints.
 use crate::migrate::sigma_tables;
+use crate::open::open;
 use crate::results::Migrated;
 use instance::Instance;
 use text::Text;
@@ -38,14 +39,21 @@ pub fn push(input: &[u8], out: &mut [u8]) -> usize
     if out.len() < Text::BYTES {
         return 0;
     }
-    let mut links = [0u32; Instance::LINKS];
-    let mut values = [0u32; Instance::VALUES];
     let sheets = sheets_of(input);
-    let migrated = sigma_tables(
+    let opened = open(
         bytes_of(input, sheets.s),
         bytes_of(input, sheets.t),
         bytes_of(input, sheets.mapping),
+    );
+    let mut run_links = [0u32; Instance::LINKS];
+    let mut run_values = [0u32; Instance::VALUES];
+    let mut links = [0u32; Instance::LINKS];
+    let mut values = [0u32; Instance::VALUES];
+    let migrated = sigma_tables(
+        opened,
         bytes_of(input, sheets.run),
+        &mut run_links,
+        &mut run_values,
         &mut links,
         &mut values,
     );

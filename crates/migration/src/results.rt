@@ -14,7 +14,7 @@ ghost use Rattle.meaning.specs.Lists.{sumOf};
 ghost use Rattle.meaning.specs.Formats.{maxRows};
 ghost use Rattle.meaning.specs.Calls.{sheetOf, inTray};
 ghost use Rattle.schema.specs.Judged.{Sound};
-ghost use Rattle.instance.specs.Decoded.{firstOf, Room};
+ghost use Rattle.instance.specs.Decoded.{firstOf};
 ghost use Rattle.migration.specs.Answers.{outcomeOf, lentOf};
 ghost use Rattle.migration.specs.Migrated.{migratedOf, Writable};
 
@@ -40,7 +40,7 @@ pub(crate) fn overfull(schema: Schema, tables: Instance) -> u8
 
 // Writes the sheet of a migrated instance into a tray, or leaves the tray as it is.
 pub(crate) fn write_migrated(m: Migrated, links: &[u32], values: &[u32], tray: &mut [u8]) -> Written
-    requires { ⌜ Writable m × Room (now links) (now values) ⌝ }
+    requires { ⌜ Writable m (now links) (now values) ⌝ }
     ensures { λ r. ⌜ lentOf r (now (tray .exit)) ≡ inTray (now (tray .entry)) (sheetOf (outcomeOf (m .refusal) (migratedOf m (now (links .entry)) (now (values .entry))))) ⌝ }
 {
     let refusal = m.refusal;

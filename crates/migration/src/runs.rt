@@ -1,9 +1,10 @@
-// The sheets of a mapping and a run over S, which Sigma and Pi open first.
+// The sheets of a mapping and a run over S, which Pi opens first.
 use crate::Refusal;
 use crate::open::Opened;
 use crate::open::open;
 use instance::Instance;
 use instance::judge_instance;
+ghost use Rattle.meaning.specs.Calls.{migration};
 ghost use Rattle.instance.specs.Decoded.{Room};
 ghost use Rattle.migration.specs.Runs.{runInput, RunSays};
 
@@ -24,7 +25,7 @@ pub(crate) fn open_run(
     values: &mut [u32],
 ) -> Run
     requires { ⌜ Room (now links) (now values) ⌝ }
-    ensures { λ r. ⌜ RunSays r (now (links .exit)) (now (values .exit)) (runInput (now (s .entry)) (now (t .entry)) (now (f .entry)) (now (i .entry))) ⌝ }
+    ensures { λ r. ⌜ RunSays r (now (links .exit)) (now (values .exit)) (runInput (migration (now (s .entry)) (now (t .entry)) (now (f .entry))) (now (i .entry))) ⌝ }
 {
     let opened = open(s, t, f);
     let source = opened.source;

@@ -10,14 +10,8 @@ use Rattle.migration.proofs.checks.check_instance.Tie as tie
 judge-schema-requires : tie.Need-judge-schema-requires
 judge-schema-requires c κs = search needs
 
-slice-aggregate-judge-instance : tie.Need-slice-aggregate-judge-instance
-slice-aggregate-judge-instance c = search needs
-
-slice-aggregate-judge-instance-2 : tie.Need-slice-aggregate-judge-instance-2
-slice-aggregate-judge-instance-2 c = search needs
-
-judge-instance-requires : tie.Need-judge-instance-requires
-judge-instance-requires c κs = search needs
+instance-refusal-requires : tie.Need-instance-refusal-requires
+instance-refusal-requires c κs = search needs
 
 or-requires : tie.Need-or-requires
 or-requires c κs = search needs
@@ -27,18 +21,16 @@ verdict-requires c κs = search needs
 
 returns : tie.Need-returns
 returns c =
-    let t = c .before .before .before .before .before .before .before .judge-schema in
-    let i = c .before .before .before .before .judge-instance in
-    c .verdict .ensures ∙ ap (λ (r : Refusal). outcomeOf r tt) (c .before .or .ensures) ∙ instance-checked (t .result) (c .before .before .before .before .before .before .before .before .before .before .args .s .now) (t .ensures .says) (i .result) (i .last .1 .1 .0) (i .last .1 .1 .1 .0) (c .before .before .before .before .before .before .before .before .before .before .args .i .now) (i .ensures .says)
+    let t = c .before .before .before .judge-schema in
+    let r = c .before .before .instance-refusal in
+    c .verdict .ensures ∙ ap (λ (r : Refusal). outcomeOf r tt) (c .before .or .ensures) ∙ instance-checked (t .result) (c .before .before .before .before .before .before .args .s .now) (t .ensures .says) (r .result) (c .before .before .before .before .before .before .args .i .now) (r .ensures)
 
 pub check-instance-spec : {M : Type 1} → statement M
 check-instance-spec =
     tie.close
     (tie.spec
     judge-schema-requires
-    slice-aggregate-judge-instance
-    slice-aggregate-judge-instance-2
-    judge-instance-requires
+    instance-refusal-requires
     or-requires
     verdict-requires
     returns)

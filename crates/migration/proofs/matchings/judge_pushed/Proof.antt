@@ -1,5 +1,6 @@
 -- `migration::matchings::judge_pushed` meets its contract.
 use Rattle.meaning.specs.Calls.{judgePushed}
+use Rattle.instance.proofs.Rooms.{room-for}
 use Rattle.matching.specs.Compared.{partnersOf}
 use Rattle.migration.proofs.Judging.{overfull-told, pushed-comparable, pushed-told}
 use borrow.Author.Needs.{needs}
@@ -19,7 +20,10 @@ slice-aggregate-sigma-2 : tie.Need-slice-aggregate-sigma-2
 slice-aggregate-sigma-2 c = search needs
 
 sigma-requires : tie.Need-sigma-requires
-sigma-requires c κs = search needs
+sigma-requires c κs =
+    let z = c .before .before .before .before .before .before .before .before .before .before .before .before .before .before .before .before .before .before .before .pre in
+    let M = z .0 in
+    (record { schemas = M .ready .schemas; mapping = M .ready .mapping; is-even = M .is-even; limits = M .run-limits; links-in = M .run .links-in }, room-for (M .ready .schemas .source) (z .1), room-for (M .ready .schemas .target) (search needs))
 
 slice-aggregate-judge-matching : tie.Need-slice-aggregate-judge-matching
 slice-aggregate-judge-matching c = search needs

@@ -4,6 +4,7 @@ use Rattle.meaning.specs.Lists.{sumOf}
 use Rattle.meaning.specs.Formats.{Instance}
 use Rattle.meaning.specs.Calls.{judgeRaw}
 use Rattle.instance.specs.Decoded.{firstOf}
+use Rattle.instance.proofs.Rooms.{room-for}
 use Rattle.matching.specs.Compared.{partnersOf}
 use Rattle.migration.proofs.Migrating.{few-rows}
 use Rattle.migration.proofs.Judging.{raw-told, overfull-told}
@@ -18,7 +19,11 @@ slice-aggregate-delta-2 : tie.Need-slice-aggregate-delta-2
 slice-aggregate-delta-2 c = search needs
 
 delta-requires : tie.Need-delta-requires
-delta-requires c κs = search needs
+delta-requires c κs =
+    let z = c .before .before .before .before .before .before .before .before .before .before .before .before .before .pre in
+    let M = z .0 in
+    let m = M .ready .mapping in
+    (record { source = M .ready .schemas .source; target = M .ready .schemas .target; short = m .short; fits = m .fits }, M .book-limits, M .book .links-in, room-for (M .ready .schemas .target) (z .2), room-for (M .ready .schemas .source) (search needs))
 
 overfull-requires : tie.Need-overfull-requires
 overfull-requires c κs = search needs
@@ -38,8 +43,8 @@ judge-matching-requires c κs =
       sound = M .ready .schemas .source;
       limits = M .run-limits;
       limits′ = record { rows = few-rows (sumOf (firstOf (x .opened .source .graph .nodes) (d .result .counts))) (sym (c .before .before .before .before .before .overfull .ensures) ∙ c .before .before .before .before .if1 .taken); long = d .ensures .long };
-      room = c .before .before .before .before .before .before .before .before .before .before .before .before .before .before .before .before .before .before .before .before .before .before .pre .1;
-      room′ = search needs;
+      room = room-for (M .ready .schemas .source) (c .before .before .before .before .before .before .before .before .before .before .before .before .before .before .before .before .before .before .before .before .before .before .pre .1);
+      room′ = room-for (M .ready .schemas .source) (search needs);
       links-in = M .run .links-in;
       long = c .before .before .before .before .before .before .before .before .before .before .before .before .before .before .before .before .before .before .before .before .before .before .pre .3;
     }

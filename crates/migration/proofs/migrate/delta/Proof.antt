@@ -1,43 +1,45 @@
 -- `migration::migrate::delta` meets its contract.
-use mathlib.Core.Path.{ap, _∙_}
-use Rattle.meaning.specs.Calls.{Outcome, Migrated, sheetOf, inTray}
+use mathlib.Core.Path.{sym, ap, _∙_}
+use Rattle.meaning.specs.Calls.{Outcome, Migration, sheetOf, inTray}
+use Rattle.migration.specs.Migrated.{pulledBook}
+use Rattle.migration.proofs.Opening.{is-opened}
 use borrow.Author.Needs.{needs}
 use Rattle.migration.proofs.migrate.delta.Statement.{statement}
 use Rattle.migration.proofs.migrate.delta.Tie as tie
 
-slice-aggregate-delta-tables : tie.Need-slice-aggregate-delta-tables
-slice-aggregate-delta-tables c = search needs
+open-requires : tie.Need-open-requires
+open-requires c κs = search needs
 
-slice-aggregate-delta-tables-2 : tie.Need-slice-aggregate-delta-tables-2
-slice-aggregate-delta-tables-2 c = search needs
+have-few-columns-requires : tie.Need-have-few-columns-requires
+have-few-columns-requires c κs = search needs
 
-delta-tables-requires : tie.Need-delta-tables-requires
-delta-tables-requires c κs = search needs
-
-slice-aggregate-write-migrated : tie.Need-slice-aggregate-write-migrated
-slice-aggregate-write-migrated c = search needs
-
-slice-aggregate-write-migrated-2 : tie.Need-slice-aggregate-write-migrated-2
-slice-aggregate-write-migrated-2 c = search needs
-
-write-migrated-requires : tie.Need-write-migrated-requires
-write-migrated-requires c κs = search needs
+delta-of-few-requires : tie.Need-delta-of-few-requires
+delta-of-few-requires c κs = (is-opened (c .before .before .before .«open» .ensures), sym (c .before .before .have-few-columns .ensures) ∙ c .before .if1 .taken)
 
 same-length : tie.Need-same-length
 same-length c = search needs
 
 returns : tie.Need-returns
-returns c = c .before .before .write-migrated .ensures ∙ ap (λ (o : Outcome Migrated). inTray (c .before .before .before .before .before .before .before .before .before .before .before .before .before .before .before .before .args .tray .now) (sheetOf o)) (c .before .before .before .before .before .before .before .before .delta-tables .ensures .says)
+returns c = let a = c .before .before .before .before .before .before .before .before .before .before .before .before .args in c .before .before .delta-of-few .ensures ∙ ap (λ (M : Outcome Migration). inTray (a .tray .now) (sheetOf (pulledBook M (a .j .now)))) (c .before .before .before .before .before .before .«open» .ensures .says)
+
+delta-of-any-requires : tie.Need-delta-of-any-requires
+delta-of-any-requires c κs = is-opened (c .before .before .before .«open» .ensures)
+
+same-length-2 : tie.Need-same-length-2
+same-length-2 c = search needs
+
+returns-2 : tie.Need-returns-2
+returns-2 c = let a = c .before .before .before .before .before .before .before .before .before .before .before .before .args in c .before .before .delta-of-any .ensures ∙ ap (λ (M : Outcome Migration). inTray (a .tray .now) (sheetOf (pulledBook M (a .j .now)))) (c .before .before .before .before .before .before .«open» .ensures .says)
 
 pub delta-spec : {M : Type 1} → statement M
 delta-spec =
     tie.close
     (tie.spec
-    slice-aggregate-delta-tables
-    slice-aggregate-delta-tables-2
-    delta-tables-requires
-    slice-aggregate-write-migrated
-    slice-aggregate-write-migrated-2
-    write-migrated-requires
+    open-requires
+    have-few-columns-requires
+    delta-of-few-requires
     same-length
-    returns)
+    returns
+    delta-of-any-requires
+    same-length-2
+    returns-2)

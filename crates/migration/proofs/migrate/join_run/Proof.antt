@@ -1,4 +1,5 @@
 -- `migration::migrate::join_run` meets its contract.
+use Rattle.instance.proofs.Rooms.{room-for}
 use Rattle.migration.proofs.Joining.{joined-made, joined-overfull}
 use borrow.Author.Needs.{needs}
 use Rattle.migration.proofs.migrate.join_run.Statement.{statement}
@@ -8,7 +9,7 @@ slice-aggregate-pi : tie.Need-slice-aggregate-pi
 slice-aggregate-pi c = search needs
 
 pi-requires : tie.Need-pi-requires
-pi-requires c κs = search needs
+pi-requires c κs = let z = c .before .before .before .before .before .before .before .before .before .pre in (z .0, search needs, room-for (z .0 .mapped .target) (z .1))
 
 same-length : tie.Need-same-length
 same-length c = search needs
@@ -19,7 +20,7 @@ same-length-2 c = search needs
 returns : tie.Need-returns
 returns c =
     let a = c .before .before .before .before .before .before .before .before .before .before .before .before .before .before .before .before .before .args in
-    joined-made (a .x) (a .«run-links» .now) (a .«run-values» .now) (c .before .before .before .before .before .before .before .before .before .before .before .before .before .before .before .before .before .pre .0 .mapped .target) (c .before .before .before .before .before .before .before .pi .ensures) (c .if1 .taken)
+    joined-made (a .x) (a .«run-links» .now) (a .«run-values» .now) (c .before .before .before .before .before .before .before .before .before .before .before .before .before .before .before .before .before .pre .0 .mapped .target) (search needs) (c .before .before .before .before .before .before .before .pi .ensures) (c .if1 .taken)
 
 same-length-3 : tie.Need-same-length-3
 same-length-3 c = search needs
@@ -30,7 +31,7 @@ same-length-4 c = search needs
 returns-2 : tie.Need-returns-2
 returns-2 c =
     let a = c .before .before .before .before .before .before .before .before .before .before .before .before .before .before .before .before .before .args in
-    joined-overfull (a .x) (a .«run-links» .now) (a .«run-values» .now) (c .before .before .before .before .before .before .before .before .before .before .before .before .before .before .before .before .before .pre .0 .mapped .target) (c .before .before .before .before .before .before .before .pi .ensures) (c .if1 .left)
+    joined-overfull (a .x) (a .«run-links» .now) (a .«run-values» .now) (c .before .before .before .before .before .before .before .before .before .before .before .before .before .before .before .before .before .pre .0 .mapped .target) (search needs) (c .before .before .before .before .before .before .before .pi .ensures) (c .if1 .left)
 
 pub join-run-spec : {M : Type 1} → statement M
 join-run-spec =

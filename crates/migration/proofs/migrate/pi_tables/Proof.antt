@@ -47,13 +47,13 @@ returns-2 : tie.Need-returns-2
 returns-2 c =
     let x = c .before .before .before .before .before .before .before .before .before .before .before .before .open-run in
     let a = c .before .before .before .before .before .before .before .before .before .before .before .before .before .before .before .before .before .before .before .before .before .args in
-    tests-stopped (x .result) (x .last .1 .1 .1 .1 .0) (x .last .1 .1 .1 .1 .1 .0) (a .s .now) (a .t .now) (a .f .now) (a .i .now) (x .ensures) (c .before .before .before .before .if1 .taken) (c .before .before .unjoinable .ensures) (c .if2 .left) (a .links .now) (a .values .now)
+    tests-stopped (x .result) (x .last .1 .1 .1 .1 .0) (x .last .1 .1 .1 .1 .1 .0) (a .s .now) (a .t .now) (a .f .now) (a .i .now) (x .ensures) (c .before .before .before .before .if1 .taken) (c .before .before .unjoinable .ensures) (c .if2 .left) (c .before .before .before .before .before .before .before .before .before .before .before .before .before .before .before .before .before .before .before .before .before .pre)
 
 returns-3 : tie.Need-returns-3
 returns-3 c =
     let x = c .before .before .before .before .before .before .before .before .open-run in
     let a = c .before .before .before .before .before .before .before .before .before .before .before .before .before .before .before .before .before .args in
-    sheets-stopped (x .result) (x .last .1 .1 .1 .1 .0) (x .last .1 .1 .1 .1 .1 .0) (a .s .now) (a .t .now) (a .f .now) (a .i .now) (x .ensures) (c .if1 .left) (a .links .now) (a .values .now)
+    sheets-stopped (x .result) (x .last .1 .1 .1 .1 .0) (x .last .1 .1 .1 .1 .1 .0) (a .s .now) (a .t .now) (a .f .now) (a .i .now) (x .ensures) (c .if1 .left) (c .before .before .before .before .before .before .before .before .before .before .before .before .before .before .before .before .before .pre)
 
 pub pi-tables-spec : {M : Type 1} → statement M
 pi-tables-spec =

@@ -18,9 +18,15 @@ same-length-2 c = search needs
 
 returns : tie.Need-returns
 returns c =
-    let a = c .before .before .before .before .before .before .before .before .before .before .before .before .before .before .before .args in
-    push-made (a .x) (a .«run-links» .now) (a .«run-values» .now) (c .before .before .before .before .before .before .before .before .before .before .before .before .before .before .before .pre .0 .schemas .target) (c .before .before .before .before .before .sigma .ensures) (c .overfull .ensures)
+    let a = c .before .before .before .before .before .before .before .before .before .before .before .before .before .args in
+    push-made (a .opened) (a .run) (a .«run-links» .now) (a .«run-values» .now) (c .before .before .before .before .before .before .before .before .before .before .before .before .before .pre .0 .schemas .target) (c .before .before .before .before .before .sigma .ensures) (c .overfull .ensures) (search needs)
 
 pub push-run-spec : {M : Type 1} → statement M
 push-run-spec =
-    tie.close (tie.spec sigma-requires overfull-requires same-length same-length-2 returns)
+    tie.close
+    (tie.spec
+    sigma-requires
+    overfull-requires
+    same-length
+    same-length-2
+    returns)

@@ -1,43 +1,45 @@
 -- `migration::migrate::sigma` meets its contract.
-use mathlib.Core.Path.{ap, _∙_}
+use mathlib.Core.Path.{sym, ap, _∙_}
 use Rattle.meaning.specs.Calls.{Outcome, Migrated, sheetOf, inTray}
+use Rattle.migration.proofs.Opening.{is-opened}
+use Rattle.migration.proofs.Pushing.{sigma-told}
 use borrow.Author.Needs.{needs}
 use Rattle.migration.proofs.migrate.sigma.Statement.{statement}
 use Rattle.migration.proofs.migrate.sigma.Tie as tie
 
-slice-aggregate-sigma-tables : tie.Need-slice-aggregate-sigma-tables
-slice-aggregate-sigma-tables c = search needs
+open-requires : tie.Need-open-requires
+open-requires c κs = search needs
 
-slice-aggregate-sigma-tables-2 : tie.Need-slice-aggregate-sigma-tables-2
-slice-aggregate-sigma-tables-2 c = search needs
+have-few-columns-requires : tie.Need-have-few-columns-requires
+have-few-columns-requires c κs = search needs
 
-sigma-tables-requires : tie.Need-sigma-tables-requires
-sigma-tables-requires c κs = search needs
-
-slice-aggregate-write-migrated : tie.Need-slice-aggregate-write-migrated
-slice-aggregate-write-migrated c = search needs
-
-slice-aggregate-write-migrated-2 : tie.Need-slice-aggregate-write-migrated-2
-slice-aggregate-write-migrated-2 c = search needs
-
-write-migrated-requires : tie.Need-write-migrated-requires
-write-migrated-requires c κs = search needs
+sigma-of-few-requires : tie.Need-sigma-of-few-requires
+sigma-of-few-requires c κs = (is-opened (c .before .before .before .«open» .ensures), sym (c .before .before .have-few-columns .ensures) ∙ c .before .if1 .taken)
 
 same-length : tie.Need-same-length
 same-length c = search needs
 
 returns : tie.Need-returns
-returns c = c .before .before .write-migrated .ensures ∙ ap (λ (o : Outcome Migrated). inTray (c .before .before .before .before .before .before .before .before .before .before .before .before .before .before .before .before .args .tray .now) (sheetOf o)) (c .before .before .before .before .before .before .before .before .sigma-tables .ensures .says)
+returns c = let a = c .before .before .before .before .before .before .before .before .before .before .before .before .args in c .before .before .sigma-of-few .ensures ∙ ap (λ (o : Outcome Migrated). inTray (a .tray .now) (sheetOf o)) (sigma-told (a .s .now) (a .t .now) (a .f .now) (a .i .now) (c .before .before .before .before .before .before .«open» .ensures))
+
+sigma-of-any-requires : tie.Need-sigma-of-any-requires
+sigma-of-any-requires c κs = is-opened (c .before .before .before .«open» .ensures)
+
+same-length-2 : tie.Need-same-length-2
+same-length-2 c = search needs
+
+returns-2 : tie.Need-returns-2
+returns-2 c = let a = c .before .before .before .before .before .before .before .before .before .before .before .before .args in c .before .before .sigma-of-any .ensures ∙ ap (λ (o : Outcome Migrated). inTray (a .tray .now) (sheetOf o)) (sigma-told (a .s .now) (a .t .now) (a .f .now) (a .i .now) (c .before .before .before .before .before .before .«open» .ensures))
 
 pub sigma-spec : {M : Type 1} → statement M
 sigma-spec =
     tie.close
     (tie.spec
-    slice-aggregate-sigma-tables
-    slice-aggregate-sigma-tables-2
-    sigma-tables-requires
-    slice-aggregate-write-migrated
-    slice-aggregate-write-migrated-2
-    write-migrated-requires
+    open-requires
+    have-few-columns-requires
+    sigma-of-few-requires
     same-length
-    returns)
+    returns
+    sigma-of-any-requires
+    same-length-2
+    returns-2)

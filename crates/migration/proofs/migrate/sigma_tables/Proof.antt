@@ -1,71 +1,92 @@
 -- `migration::migrate::sigma_tables` meets its contract.
+use native.Mathlib.Omega.{arith}
+use Rattle.migration.proofs.Opening.{run-open}
 use Rattle.migration.proofs.Pushing.{pushable, even-pushed, uneven-stopped, sheets-stopped}
 use borrow.Author.Needs.{needs}
 use Rattle.migration.proofs.migrate.sigma_tables.Statement.{statement}
 use Rattle.migration.proofs.migrate.sigma_tables.Tie as tie
 
-slice-aggregate-open-run : tie.Need-slice-aggregate-open-run
-slice-aggregate-open-run c = search needs
+judge-instance-requires : tie.Need-judge-instance-requires
+judge-instance-requires c κs = search needs
 
-slice-aggregate-open-run-2 : tie.Need-slice-aggregate-open-run-2
-slice-aggregate-open-run-2 c = search needs
-
-open-run-requires : tie.Need-open-run-requires
-open-run-requires c κs = search needs
+or-requires : tie.Need-or-requires
+or-requires c κs = search needs
 
 uneven-requires : tie.Need-uneven-requires
 uneven-requires c κs =
-    c .before .before .before .before .before .before .before .before .open-run .ensures .ready (c .if1 .taken)
-
-slice-aggregate-push-run : tie.Need-slice-aggregate-push-run
-slice-aggregate-push-run c = search needs
-
-slice-aggregate-push-run-2 : tie.Need-slice-aggregate-push-run-2
-slice-aggregate-push-run-2 c = search needs
+    let a = c .before .before .before .before .before .before .before .before .before .before .before .before .before .before .before .before .before .before .args in
+    let i = c .before .before .before .before .before .before .before .before .judge-instance in
+    let I = run-open (a .opened) (c .before .before .before .before .before .before .before .before .before .before .before .before .before .before .before .before .before .before .pre .0) (i .result) (i .last .1 .1 .0) (i .last .1 .1 .1 .0) (a .i .now) (i .ensures) (c .before .before .or .ensures) in
+    I .ready (c .if1 .taken)
 
 push-run-requires : tie.Need-push-run-requires
 push-run-requires c κs =
-    let x = c .before .before .before .before .before .before .before .before .before .before .before .before .before .before .before .open-run in
-    let a = c .before .before .before .before .before .before .before .before .before .before .before .before .before .before .before .before .before .before .before .before .before .before .before .before .args in
-    (pushable (x .result) (x .last .1 .1 .1 .1 .0) (x .last .1 .1 .1 .1 .1 .0) (a .s .now) (a .t .now) (a .f .now) (a .i .now) (x .ensures) (c .before .before .before .before .before .before .before .if1 .taken) (c .before .before .before .before .before .before .uneven .ensures) (c .before .before .before .before .if2 .taken), search needs, c .before .before .before .before .before .before .before .before .before .before .before .before .before .before .before .before .before .before .before .before .before .before .before .before .pre)
+    let a = c .before .before .before .before .before .before .before .before .before .before .before .before .before .before .before .before .before .before .before .before .before .before .before .before .before .args in
+    let i = c .before .before .before .before .before .before .before .before .before .before .before .before .before .before .before .judge-instance in
+    let I = run-open (a .opened) (c .before .before .before .before .before .before .before .before .before .before .before .before .before .before .before .before .before .before .before .before .before .before .before .before .before .pre .0) (i .result) (i .last .1 .1 .0) (i .last .1 .1 .1 .0) (a .i .now) (i .ensures) (c .before .before .before .before .before .before .before .before .before .or .ensures) in
+    (pushable (a .opened) (i .result) (i .last .1 .1 .0) (i .last .1 .1 .1 .0) I (c .before .before .before .before .before .before .before .if1 .taken) (c .before .before .before .before .before .before .uneven .ensures) (c .before .before .before .before .if2 .taken), record { for-links = omega (arith, c .before .before .before .before .before .before .before .before .before .before .before .before .before .before .before .before .before .before .before .before .before .before .before .before .before .pre .1 .for-links, i .kept .1 .1 .0); for-values = omega (arith, c .before .before .before .before .before .before .before .before .before .before .before .before .before .before .before .before .before .before .before .before .before .before .before .before .before .pre .1 .for-values, i .kept .1 .1 .1 .0) }, c .before .before .before .before .before .before .before .before .before .before .before .before .before .before .before .before .before .before .before .before .before .before .before .before .before .pre .2)
 
 same-length : tie.Need-same-length
-same-length c = search needs
+same-length c = c .before .before .before .before .before .before .before .before .before .before .before .before .before .before .before .before .before .before .before .before .judge-instance .kept .1 .1 .0
 
 same-length-2 : tie.Need-same-length-2
-same-length-2 c = search needs
+same-length-2 c = c .before .before .before .before .before .before .before .before .before .before .before .before .before .before .before .before .before .before .before .before .judge-instance .kept .1 .1 .1 .0
+
+same-length-3 : tie.Need-same-length-3
+same-length-3 c = search needs
+
+same-length-4 : tie.Need-same-length-4
+same-length-4 c = search needs
 
 returns : tie.Need-returns
 returns c =
-    let x = c .before .before .before .before .before .before .before .before .before .before .before .before .before .before .before .before .before .before .before .before .open-run in
-    let a = c .before .before .before .before .before .before .before .before .before .before .before .before .before .before .before .before .before .before .before .before .before .before .before .before .before .before .before .before .before .args in
-    even-pushed (x .result) (x .last .1 .1 .1 .1 .0) (x .last .1 .1 .1 .1 .1 .0) (a .s .now) (a .t .now) (a .f .now) (a .i .now) (x .ensures) (c .before .before .before .before .before .before .before .before .before .before .before .before .if1 .taken) (c .before .before .before .before .before .before .before .before .before .before .before .uneven .ensures) (c .before .before .before .before .before .before .before .before .before .if2 .taken) (c .before .before .before .before .push-run .ensures)
+    let a = c .before .before .before .before .before .before .before .before .before .before .before .before .before .before .before .before .before .before .before .before .before .before .before .before .before .before .before .before .before .before .args in
+    let i = c .before .before .before .before .before .before .before .before .before .before .before .before .before .before .before .before .before .before .before .before .judge-instance in
+    let I = run-open (a .opened) (c .before .before .before .before .before .before .before .before .before .before .before .before .before .before .before .before .before .before .before .before .before .before .before .before .before .before .before .before .before .before .pre .0) (i .result) (i .last .1 .1 .0) (i .last .1 .1 .1 .0) (a .i .now) (i .ensures) (c .before .before .before .before .before .before .before .before .before .before .before .before .before .before .or .ensures) in
+    even-pushed (a .opened) (i .result) (i .last .1 .1 .0) (i .last .1 .1 .1 .0) I (c .before .before .before .before .before .before .before .before .before .before .before .before .if1 .taken) (c .before .before .before .before .before .before .before .before .before .before .before .uneven .ensures) (c .before .before .before .before .before .before .before .before .before .if2 .taken) (c .before .before .before .before .push-run .ensures)
+
+same-length-5 : tie.Need-same-length-5
+same-length-5 c = search needs
+
+same-length-6 : tie.Need-same-length-6
+same-length-6 c = search needs
 
 returns-2 : tie.Need-returns-2
 returns-2 c =
-    let x = c .before .before .before .before .before .before .before .before .before .before .before .open-run in
-    let a = c .before .before .before .before .before .before .before .before .before .before .before .before .before .before .before .before .before .before .before .before .args in
-    uneven-stopped (x .result) (x .last .1 .1 .1 .1 .0) (x .last .1 .1 .1 .1 .1 .0) (a .s .now) (a .t .now) (a .f .now) (a .i .now) (x .ensures) (c .before .before .before .if1 .taken) (c .before .before .uneven .ensures) (c .if2 .left) (a .links .now) (a .values .now)
+    let a = c .before .before .before .before .before .before .before .before .before .before .before .before .before .before .before .before .before .before .before .before .before .args in
+    let i = c .before .before .before .before .before .before .before .before .before .before .before .judge-instance in
+    let I = run-open (a .opened) (c .before .before .before .before .before .before .before .before .before .before .before .before .before .before .before .before .before .before .before .before .before .pre .0) (i .result) (i .last .1 .1 .0) (i .last .1 .1 .1 .0) (a .i .now) (i .ensures) (c .before .before .before .before .before .or .ensures) in
+    uneven-stopped (a .opened) (i .result) (i .last .1 .1 .0) (i .last .1 .1 .1 .0) I (c .before .before .before .if1 .taken) (c .before .before .uneven .ensures) (c .if2 .left) (c .before .before .before .before .before .before .before .before .before .before .before .before .before .before .before .before .before .before .before .before .before .pre .2)
+
+same-length-7 : tie.Need-same-length-7
+same-length-7 c = search needs
+
+same-length-8 : tie.Need-same-length-8
+same-length-8 c = search needs
 
 returns-3 : tie.Need-returns-3
 returns-3 c =
-    let x = c .before .before .before .before .before .before .before .before .open-run in
-    let a = c .before .before .before .before .before .before .before .before .before .before .before .before .before .before .before .before .before .args in
-    sheets-stopped (x .result) (x .last .1 .1 .1 .1 .0) (x .last .1 .1 .1 .1 .1 .0) (a .s .now) (a .t .now) (a .f .now) (a .i .now) (x .ensures) (c .if1 .left) (a .links .now) (a .values .now)
+    let a = c .before .before .before .before .before .before .before .before .before .before .before .before .before .before .before .before .before .before .args in
+    let i = c .before .before .before .before .before .before .before .before .judge-instance in
+    let I = run-open (a .opened) (c .before .before .before .before .before .before .before .before .before .before .before .before .before .before .before .before .before .before .pre .0) (i .result) (i .last .1 .1 .0) (i .last .1 .1 .1 .0) (a .i .now) (i .ensures) (c .before .before .or .ensures) in
+    sheets-stopped (a .opened) (i .result) (i .last .1 .1 .0) (i .last .1 .1 .1 .0) I (c .if1 .left) (c .before .before .before .before .before .before .before .before .before .before .before .before .before .before .before .before .before .before .pre .2)
 
 pub sigma-tables-spec : {M : Type 1} → statement M
 sigma-tables-spec =
     tie.close
     (tie.spec
-    slice-aggregate-open-run
-    slice-aggregate-open-run-2
-    open-run-requires
+    judge-instance-requires
+    or-requires
     uneven-requires
-    slice-aggregate-push-run
-    slice-aggregate-push-run-2
     push-run-requires
     same-length
     same-length-2
+    same-length-3
+    same-length-4
     returns
+    same-length-5
+    same-length-6
     returns-2
+    same-length-7
+    same-length-8
     returns-3)

@@ -6,10 +6,10 @@ use Rattle.migration.proofs.results.write_migrated.Statement.{statement
 use Rattle.migration.proofs.results.write_migrated.Tie as tie
 
 sheet-length-requires : tie.Need-sheet-length-requires
-sheet-length-requires c κs = let z = c .before .before .before .before .before .before .before .before .pre .0 in (z .sound, z .limits (c .before .before .if1 .taken))
+sheet-length-requires c κs = let z = c .before .before .before .before .before .before .before .before .pre in (z .sound, z .limits (c .before .before .if1 .taken))
 
 write-instance-requires : tie.Need-write-instance-requires
-write-instance-requires c κs = let z = c .before .before .before .before .before .before .before .before .before .before .before .pre in (z .0 .sound, z .0 .limits (c .before .before .before .before .before .if1 .taken), z .1, omega (arith, c .before .before .sheet-length .ensures))
+write-instance-requires c κs = let z = c .before .before .before .before .before .before .before .before .before .before .before .pre in (z .sound, z .limits (c .before .before .before .before .before .if1 .taken), z .room, omega (arith, c .before .before .sheet-length .ensures))
 
 same-length : tie.Need-same-length
 same-length c = search needs

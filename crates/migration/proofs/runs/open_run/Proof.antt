@@ -24,7 +24,7 @@ returns c =
     let o = c .before .before .before .before .before .before .before .before .before .before .«open» in
     let i = c .before .before .before .before .before .before .judge-instance in
     let a = c .before .before .before .before .before .before .before .before .before .before .before .before .before .before .before .before .before .args in
-    run-open (o .result) (a .s .now) (a .t .now) (a .f .now) (o .ensures) (i .result) (i .last .1 .1 .0) (i .last .1 .1 .1 .0) (a .i .now) (i .ensures) (c .or .ensures)
+    run-open (o .result) (o .ensures) (i .result) (i .last .1 .1 .0) (i .last .1 .1 .1 .0) (a .i .now) (i .ensures) (c .or .ensures)
 
 pub open-run-spec : {M : Type 1} → statement M
 open-run-spec =

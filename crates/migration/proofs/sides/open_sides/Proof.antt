@@ -1,5 +1,6 @@
 -- `migration::sides::open_sides` meets its contract.
 use mathlib.Core.Path.{_≡_, ap, _∙_}
+use Rattle.instance.proofs.Rooms.{room-for}
 use Rattle.migration.specs.declared.Refusal.{Refusal}
 use Rattle.migration.specs.Answers.{orNext}
 use Rattle.migration.proofs.Refusing.{refusal}
@@ -16,10 +17,10 @@ open-requires : tie.Need-open-requires
 open-requires c κs = search needs
 
 judge-instance-requires : tie.Need-judge-instance-requires
-judge-instance-requires c κs = (c .before .before .before .before .«open» .ensures .schemas .source, c .before .before .before .before .before .before .before .before .before .before .before .before .before .before .pre .0)
+judge-instance-requires c κs = let S = c .before .before .before .before .«open» .ensures .schemas .source in (S, room-for S (c .before .before .before .before .before .before .before .before .before .before .before .before .before .before .pre .0))
 
 judge-instance-requires-2 : tie.Need-judge-instance-requires-2
-judge-instance-requires-2 c κs = (c .before .before .before .before .before .before .before .before .before .before .before .«open» .ensures .schemas .target, c .before .before .before .before .before .before .before .before .before .before .before .before .before .before .before .before .before .before .before .before .before .pre .1)
+judge-instance-requires-2 c κs = let T = c .before .before .before .before .before .before .before .before .before .before .before .«open» .ensures .schemas .target in (T, room-for T (c .before .before .before .before .before .before .before .before .before .before .before .before .before .before .before .before .before .before .before .before .before .pre .1))
 
 or-requires : tie.Need-or-requires
 or-requires c κs = search needs
