@@ -14,6 +14,7 @@ ghost use mathlib.Core.Path.{_≡_};
 ghost use Rattle.meaning.specs.Calls.{checkSchema, checkMapping, checkInstance, samePath};
 ghost use Rattle.migration.specs.Answers.{outcomeOf, verdictOf, equalityOf, PushedChecked, RawChecked};
 
+// The verdict of a refusal, which may be none.
 fn verdict(refusal: Refusal) -> Verdict
     ensures { λ r. ⌜ verdictOf r ≡ outcomeOf refusal tt ⌝ }
 {
