@@ -86,11 +86,8 @@ module _ (o : Opened) (s t f : List ℕ) (O : Opens o (migration s t f)) (run bo
       (yields evenness tt (tested is-even 12 (λ e. omega arith)) (λ _. result)))))
 
   module _ {r : Refusal} (e : r ≡ sheets) where
-    told : (orNext r evenness ≡ r → outcomeOf r result ≡ inputs s t f i j) × (orNext r evenness ≡ evenness → outcomeOf evenness result ≡ inputs s t f i j)
-    told = (
-      λ d. ap (λ (r : Refusal). outcomeOf r result) (sym d ∙ ap (λ (r : Refusal). orNext r evenness) e) ∙ inputs-told,
-      λ d. ap (λ (r : Refusal). outcomeOf r result) (sym d ∙ ap (λ (r : Refusal). orNext r evenness) e) ∙ inputs-told,
-    )
+    told : {q : Refusal} → orNext r evenness ≡ q → outcomeOf q result ≡ inputs s t f i j
+    told d = ap (λ (r : Refusal). outcomeOf r result) (sym d ∙ ap (λ (r : Refusal). orNext r evenness) e) ∙ inputs-told
 
     module _ (z : r .number ≡ 0) where
       none : sheets .number ≡ 0
@@ -101,7 +98,7 @@ module _ (o : Opened) (s t f : List ℕ) (O : Opens o (migration s t f)) (run bo
 
       pub sides-open : {n : ℕ} → n ≡ cond is-even 0 12 → SidesSay (record { refusal = refusal n 0; opened = o; run = run; book = book }) links values links′ values′ (inputs s t f i j)
       sides-open d = record {
-        says = ap (λ (n : ℕ). outcomeOf (refusal n 0) result) d ∙ told .1 (or-none r evenness z);
+        says = ap (λ (n : ℕ). outcomeOf (refusal n 0) result) d ∙ told (or-none r evenness z);
         migratable = λ w. record {
           ready = sides-ready;
           run-limits = I .limits;
@@ -113,4 +110,4 @@ module _ (o : Opened) (s t f : List ℕ) (O : Opens o (migration s t f)) (run bo
       }
 
     pub sides-stopped : (r .number ≡ 0 → ⊥) → SidesSay (record { refusal = r; opened = o; run = run; book = book }) links values links′ values′ (inputs s t f i j)
-    sides-stopped some = record { says = told .0 (or-some r evenness some); migratable = λ w. absurd (some w) }
+    sides-stopped some = record { says = told (or-some r evenness some); migratable = λ w. absurd (some w) }

@@ -1,11 +1,14 @@
 -- What push prints: the text of Sigma's tables, which can be printed, or of the refusal.
-use Prim.Native.Nat.{ℕ, _≤_}
-use mathlib.Core.Path.{_≡_, refl, sym, ap, _∙_}
+use Prim.Native.Nat.{ℕ, _≤_, _<_}
+use mathlib.Core.Path.{_≡_, sym, ap, _∙_, Σ-path}
+use mathlib.Core.Bool.{Bool, true, false, cond}
 use mathlib.Core.List.{List, _++_}
 use native.Mathlib.Omega.{arith}
 use lib.ListN.{length, drop, length-append}
+use lib.Dec.{leb}
+use borrow.Author.Tests.{le-leb, lt-leb}
 use Rattle.meaning.specs.Formats.{instanceSheet}
-use Rattle.meaning.specs.Program.{printed, shown}
+use Rattle.meaning.specs.Program.{printed, shown, push}
 use Rattle.meaning.specs.Calls as meaning
 use Rattle.meaning.specs.Calls.{refused, accepted, sigmaTables}
 use Rattle.meaning.proofs.Facts.{instance-facts}
@@ -17,7 +20,7 @@ use Rattle.migration.specs.declared.Refusal.{Refusal}
 use Rattle.migration.specs.declared.results.Migrated.{Migrated}
 use Rattle.migration.specs.Answers.{outcomeOf}
 use Rattle.migration.specs.Migrated.{migratedOf, Migrates}
-use Rattle.migration.specs.Printed.{Prints}
+use Rattle.migration.specs.Printed.{printedInto}
 use Rattle.migration.proofs.Refusing.{no-refusal, some-refusal}
 
 module _ (r : Refusal) (m : meaning.Migrated) {old new : List ℕ} {t : Text} where
@@ -41,13 +44,26 @@ module _ {m : Migrated} {links values : List ℕ} (s t f i : List ℕ) (M : Migr
       }
 
   pub prints : {text old new : List ℕ} {r : Text} → text ≡ shown (sigmaTables s t f i) → maxTextBytes ≤ length old
-      → Written (shown (outcomeOf (m .refusal) (migratedOf m links values))) old r new → Prints text old (r .length) new
+      → Written (shown (outcomeOf (m .refusal) (migratedOf m links values))) old r new → (r .length, new) ≡ printedInto old text
   prints {text} {old} {new} {r} e large w =
       let d : shown (outcomeOf (m .refusal) (migratedOf m links values)) ≡ text = ap shown (M .says) ∙ sym e in
       let n : r .length ≡ length text = w .length-is ∙ ap (λ (l : List ℕ). length l) d in
       let b : new ≡ text ++ drop (length text) old = rw d at (w .bytes) in
-      let k : length new ≡ length (text ++ drop (length text) old) = ap (λ (l : List ℕ). length l) b in
-      record { length-is = λ _. n; bytes = λ _. b; small = λ few. absurd (few large); inside = omega (arith, n, k, length-append text (drop (length text) old)) }
+      rw (le-leb maxTextBytes (length old) large) (Σ-path n b)
 
-pub prints-nothing : (text old : List ℕ) → (maxTextBytes ≤ length old → ⊥) → Prints text old 0 old
-prints-nothing text old few = record { length-is = λ h. absurd (few h); bytes = λ h. absurd (few h); small = λ _. (refl, refl); inside = omega arith }
+pub prints-nothing : (text old : List ℕ) → length old < maxTextBytes → (0, old) ≡ printedInto old text
+prints-nothing text old few = rw (lt-leb maxTextBytes (length old) few)
+
+-- what is printed stands inside the buffer
+pub printed-inside : {r : ℕ} {new : List ℕ} (old input : List ℕ) → (r, new) ≡ printedInto old (push input) → r ≤ length new
+printed-inside {r} {new} old input e = go (leb maxTextBytes (length old)) e
+  where
+    text : List ℕ
+    text = push input
+
+    go : (b : Bool) → _≡_ {A = ℕ × List ℕ} (r, new) (cond b (length text, text ++ drop (length text) old) (0, old)) → r ≤ length new
+    go true e =
+        let n : r ≡ length text = ap (λ (p : ℕ × List ℕ). p .0) e in
+        let l : length new ≡ length (text ++ drop (length text) old) = ap (λ (p : ℕ × List ℕ). length (p .1)) e in
+        omega (arith, n, l, length-append text (drop (length text) old))
+    go false e = let n : r ≡ 0 = ap (λ (p : ℕ × List ℕ). p .0) e in omega arith

@@ -65,7 +65,7 @@ module _ {t : Schema} (A : Sound t) (i : Instance) (links values : List ℕ) whe
         ∙ sym (ap (λ (x : Attribute). count I (x .node)) (attribute-is t a h) ∙ count-at (getD (t .node) a 0) (home-in t A a h));
   }
 
-  pub accepted-valid : Limits t i → Accepted t i links values → ValidInstance (schemaOf t) I
+  accepted-valid : Limits t i → Accepted t i links values → ValidInstance (schemaOf t) I
   accepted-valid L H = record { shaped = shaped; is = instance-is kinds (schemaOf t) I shaped (H .links-in) (H .values-in) (H .obeys); few-rows = L .rows }
 
 -- ---- a mapping

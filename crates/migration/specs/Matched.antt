@@ -1,4 +1,4 @@
--- A judged matching in a working array, and what the checkers and the turnings take of the sheets.
+-- A judged matching in a working array, and the partners of each side where its tests are passed.
 use Prim.Native.Nat.{ℕ}
 use mathlib.Core.Bool.{cond}
 use mathlib.Core.List.{List}

@@ -1,4 +1,4 @@
--- What the judges of a mapping, a run and a book give together, and the test of evenness.
+-- What the judges of a mapping, a run and a book give together, the test of evenness, and the sizes of both migrated tables.
 use Prim.Native.Nat.{ℕ}
 use mathlib.Core.Path.{_≡_}
 use mathlib.Core.Bool.{true}

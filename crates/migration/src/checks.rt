@@ -20,6 +20,7 @@ ghost use Rattle.schema.specs.Judged.{Sound};
 ghost use Rattle.instance.specs.Decoded.{hasFewColumns};
 ghost use Rattle.migration.specs.Answers.{checkedSheet, outcomeOf, verdictOf, equalityOf, PushedChecked, RawChecked};
 
+// The verdict of a refusal, which may be none.
 fn verdict(refusal: Refusal) -> Verdict
     ensures { λ r. ⌜ verdictOf r ≡ outcomeOf refusal tt ⌝ }
 {

@@ -19,12 +19,14 @@ ghost use mathlib.Core.Path.{_≡_};
 ghost use Rattle.meaning.specs.Calls.{refused, checkSchema, checkMapping, checkInstance, samePath, deltaTables, sigmaTables, piTables, sheetOf, checkPushed, checkRaw, pushedToRaw, rawToPushed, inTray};
 ghost use Rattle.migration.specs.Answers.{verdictOf, equalityOf, writtenOf, encoded, checked, answered, returned};
 
+// A refusal as a number.
 fn refusal_number(refusal: Refusal) -> u64
     ensures { λ r. ⌜ r ≡ encoded (refused (refusal .number) (refusal .place)) ⌝ }
 {
     4294967296 + 256 * (refusal.number as u64) + refusal.place as u64
 }
 
+// A verdict as a number.
 fn verdict_number(verdict: Verdict) -> u64
     ensures { λ r. ⌜ r ≡ encoded (checked (verdictOf verdict)) ⌝ }
 {
@@ -34,6 +36,7 @@ fn verdict_number(verdict: Verdict) -> u64
     }
 }
 
+// The answer to the path question as a number.
 fn equality_number(equality: Equality) -> u64
     ensures { λ r. ⌜ r ≡ encoded (answered (equalityOf equality)) ⌝ }
 {
@@ -44,6 +47,7 @@ fn equality_number(equality: Equality) -> u64
     }
 }
 
+// A byte length or a refusal as a number.
 fn written_number(written: Written) -> u64
     ensures { λ r. ⌜ r ≡ encoded (writtenOf written) ⌝ }
 {

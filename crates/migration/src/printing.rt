@@ -15,7 +15,7 @@ ghost use Rattle.meaning.specs.Program as program;
 ghost use Rattle.text.specs.Written.{maxTextBytes, Printable, Written};
 ghost use Rattle.migration.specs.Answers.{outcomeOf};
 ghost use Rattle.migration.specs.Migrated.{migratedOf};
-ghost use Rattle.migration.specs.Printed.{Prints};
+ghost use Rattle.migration.specs.Printed.{printedInto};
 
 // Writes the text of a migrated instance, or of the refusal.
 fn print(m: Migrated, links: &[u32], values: &[u32], out: &mut [u8]) -> Text
@@ -31,10 +31,10 @@ fn print(m: Migrated, links: &[u32], values: &[u32], out: &mut [u8]) -> Text
     write_refusal(&mut *out, refusal.number, refusal.place)
 }
 
-// What the program push prints for an input, written to the front of out: its length. Where out has fewer than 159,251 bytes, which hold every
-// text, nothing is written, and the answer is 0.
+// What the program push prints for an input, written to the front of out: its length. Where out has fewer than `Text::BYTES`
+// bytes, which hold every text, nothing is written, and the answer is 0.
 pub fn push(input: &[u8], out: &mut [u8]) -> usize
-    ensures { λ r. ⌜ Prints (program.push (now (input .entry))) (now (out .entry)) r (now (out .exit)) ⌝ }
+    ensures { λ r. ⌜ (r, now (out .exit)) ≡ printedInto (now (out .entry)) (program.push (now (input .entry))) ⌝ }
 {
     if out.len() < Text::BYTES {
         return 0;

@@ -30,6 +30,11 @@ pub struct Sheets {
     pub run: Part,
 }
 
+impl Sheets {
+    // Four sheets of at most 65,535 bytes, each after its length.
+    pub const BYTES: usize = 262148;
+}
+
 // The byte length at a position.
 fn length_at(input: &[u8], at: usize) -> usize
     requires { ⌜ at + 2 ≤ length (now input) ⌝ }

@@ -15,7 +15,8 @@ use Rattle.migration.proofs.printing.push.Statement.{statement}
 use Rattle.migration.proofs.printing.push.Tie as tie
 
 returns : tie.Need-returns
-returns c = prints-nothing (push (c .before .before .before .args .input .now)) (c .before .before .before .args .out .now) (λ h. let w = c .if1 .taken in omega arith)
+returns c =
+    prints-nothing (push (c .before .before .before .args .input .now)) (c .before .before .before .args .out .now) (c .if1 .taken)
 
 sheets-of-requires : tie.Need-sheets-of-requires
 sheets-of-requires c κs = search needs
