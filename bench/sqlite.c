@@ -1,7 +1,7 @@
 /* Times the push of a run in SQLite, in memory, rows preloaded, nothing checked.
  * Arguments: the scripts that make and fill the tables, that push, that empty the pushed tables again, and that ask how many
- * rows differ from Sigma's. The push's statements are prepared once and run in one transaction; the least time of 300 runs is
- * printed. */
+ * rows differ from Sigma's. The push's statements are prepared once and run in one transaction, into tables that the run before
+ * has filled and that were emptied since, outside the time; the least time of 300 runs is printed. */
 #define _POSIX_C_SOURCE 199309L
 #include <sqlite3.h>
 #include <stdio.h>

@@ -2,12 +2,24 @@
  *
  * A sheet is a byte string, lent as a pointer and a length; it may have any length and any content, and it is never changed.
  * A tray is where a result is written; a call that refuses changes no byte of it, and bytes beyond the result keep their values.
+ * A sheet is bit fields, most significant bit first, then 0 bits to the byte's end, then nothing; by the bits of each field:
+ *   schema      nodes 5, edges 6, attributes 5, equations 6; each edge: source 4, target 4; each attribute: node 4, kind 4;
+ *               each equation: two paths
+ *   path        start 4, length 4, edges 5 each
+ *   mapping     each node's image 4; each edge's image: length 4, edges 5 each; each attribute's image 4
+ *   instance    each table's row count 10; for each edge, each source row's target row 9; for each attribute, each row's value 32
+ *   matching    for each row, tables in order, the row of its partner 9
+ * Everything is numbered from 0, the kinds of attributes as docs/sheet/schema.md lists them. The tool `sheet` makes sheets from readable
+ * text (docs/sheet/commands.md).
+ *
  * A pointer may be null only where its length is 0. Two lent byte strings may overlap, unless one of them is a tray.
  *
  * Every call gives a 64-bit number:
  *   below 2^32                      accepted: the byte length of the result; 0 for a check; for migration_same_path 1 equal, 0 unequal
- *   2^32 + 256 * number + place     refused: number is the first that applies (below), place the sheet's, counted from 1 in the
- *                                   order of the parameters; 0 where the condition is one of all sheets together
+ *   2^32 + 256 * number + place     refused: number says why (below), place is the sheet's, counted from 1 in the order of the
+ *                                   parameters; 0 where the condition is one of all sheets together
+ *
+ * The calls have no state, keep no pointer and allocate nothing: they may run side by side.
  */
 #ifndef MIGRATION_H
 #define MIGRATION_H
@@ -19,7 +31,13 @@
 extern "C" {
 #endif
 
-/* Why a sheet is sent back. */
+/* Why a sheet is sent back. The number is the first that applies. Sheets are judged in the order of their places, and a sheet in this order:
+ *   schema      1 inside the leading counts, 3, 1 in the rest, 2, 4, 5, 6
+ *   mapping     1, 2, 7, 8
+ *   instance    1 inside the row counts, 3, 1 in the rest, 2, 9, 10, 11
+ *   path        1, 2, 4
+ * Then come the conditions of all sheets together, at place 0: 12, 13, 14, 15; then a list of partners: 1, 2, 17; last, at place 0, 16.
+ */
 enum {
     MIGRATION_CUT = 1,          /* the bits end before the last field does */
     MIGRATION_TAIL = 2,         /* a filling bit is 1, or a byte follows */
@@ -43,32 +61,35 @@ enum {
 /* A tray of this many bytes holds every instance sheet, and of this many every matching sheet. */
 enum { MIGRATION_INSTANCE_BYTES = 51220, MIGRATION_MATCHING_BYTES = 576 };
 
-/* Taking an answer apart. */
+/* Taking an answer apart; number and place are those of a refusal. */
 static inline int migration_accepted(uint64_t answer) { return answer >> 32 == 0; }
 static inline unsigned migration_number(uint64_t answer) { return (unsigned)(answer >> 8 & 0xff); }
 static inline unsigned migration_place(uint64_t answer) { return (unsigned)(answer & 0xff); }
 
-/* A schema sheet, place 1. */
+/* Checks a schema sheet (place 1). */
 uint64_t migration_check_schema(const uint8_t *s, size_t s_len);
 
-/* Schemas S and T (places 1, 2) and a mapping from S to T (place 3). */
+/* Checks schemas S and T (places 1, 2) and a mapping from S to T (place 3). */
 uint64_t migration_check_mapping(const uint8_t *s, size_t s_len, const uint8_t *t, size_t t_len, const uint8_t *f, size_t f_len);
 
-/* A schema (place 1) and an instance of it (place 2). */
+/* Checks a schema (place 1) and an instance of it (place 2). */
 uint64_t migration_check_instance(const uint8_t *s, size_t s_len, const uint8_t *i, size_t i_len);
 
-/* Whether two paths (places 2, 3) of a schema (place 1) are equal. */
+/* Whether two paths (places 2, 3) of a schema (place 1) are equal by its equations. */
 uint64_t migration_same_path(const uint8_t *s, size_t s_len, const uint8_t *p, size_t p_len, const uint8_t *q, size_t q_len);
 
-/* Delta along a mapping from S to T (places 1 to 3) of an instance of T (place 4): an instance sheet of S, written to the tray. */
+/* Delta along a mapping from S to T (places 1 to 3) of an instance of T (place 4): an instance sheet of S, written to the tray.
+ * At place 0: 15, 16. */
 uint64_t migration_delta(const uint8_t *s, size_t s_len, const uint8_t *t, size_t t_len, const uint8_t *f, size_t f_len,
                          const uint8_t *j, size_t j_len, uint8_t *tray, size_t tray_len);
 
-/* Sigma along an even mapping from S to T (places 1 to 3) of an instance of S (place 4): an instance sheet of T, written to the tray. */
+/* Sigma along an even mapping from S to T (places 1 to 3) of an instance of S (place 4): an instance sheet of T, written to the tray.
+ * At place 0: 12, 16; the result has as many rows as the run, so it is never overfull. */
 uint64_t migration_sigma(const uint8_t *s, size_t s_len, const uint8_t *t, size_t t_len, const uint8_t *f, size_t f_len,
                          const uint8_t *i, size_t i_len, uint8_t *tray, size_t tray_len);
 
-/* Pi along a mapping from S to T (places 1 to 3) of an instance of S (place 4): an instance sheet of T, written to the tray. */
+/* Pi along a mapping from S to T (places 1 to 3) of an instance of S (place 4): an instance sheet of T, written to the tray.
+ * At place 0: 13, 14, 15, 16. */
 uint64_t migration_pi(const uint8_t *s, size_t s_len, const uint8_t *t, size_t t_len, const uint8_t *f, size_t f_len,
                       const uint8_t *i, size_t i_len, uint8_t *tray, size_t tray_len);
 
@@ -77,7 +98,7 @@ uint64_t migration_pi(const uint8_t *s, size_t s_len, const uint8_t *t, size_t t
  *   pushed side    from Sigma of the run to the book
  *   raw side       from the run to Delta of the book
  * Both sides have as many rows as the run, so their lists have the same byte length, at most MIGRATION_MATCHING_BYTES.
- * All four calls make the same tests: the sheets at places 1 to 5, then 12, 15 and the list (1, 2, 17); a turning last 16.
+ * All four calls make the same tests: the sheets at places 1 to 5, then 12 and 15 at place 0, then the list: 1, 2, 17; a turning last 16.
  */
 
 /* Whether the list is a matching of the pushed side. */

@@ -1,5 +1,6 @@
 #!/usr/bin/env bash
-# Builds the C examples against the static library, runs them, and compares what they print.
+# Builds the C examples against the static library of the proved code, which .ci/archive writes where it is missing or older than the code
+# (that needs the Rattle toolchain and takes minutes from nothing), runs them, and compares what they print with the .expected files.
 set -euo pipefail
 cd "$(dirname "${BASH_SOURCE[0]}")/../.."
 .ci/archive

@@ -1,14 +1,12 @@
 //! The sheets that are measured.
 
+use migration::MOST_INSTANCE_BYTES;
 use reference::plain::*;
 use vectors::base::*;
 use vectors::build::*;
 use vectors::call::{Call, Case};
 use vectors::limits::{full_schema, longest};
 use vectors::puzzles::complete_graph;
-
-/// A tray that holds every instance sheet.
-const TRAY: usize = 51_220;
 
 /// Every measured case; the names of a size begin with it.
 pub fn inputs() -> Vec<Case> {
@@ -44,7 +42,9 @@ fn base() -> Vec<Case> {
         (Call::RawToPushed, raw),
     ];
     let name = |call: Call| format!("base.{}", call.name());
-    cases.map(|(call, sheets)| Case::new(name(call), call, sheets).with_tray(TRAY)).to_vec()
+    cases
+        .map(|(call, sheets)| Case::new(name(call), call, sheets).with_tray(MOST_INSTANCE_BYTES))
+        .to_vec()
 }
 
 /// 8 nodes, 16 edges, 8 columns, 16 equations, 128 paths: a doubled chain of 5
@@ -136,7 +136,9 @@ fn full() -> Vec<Case> {
         (Call::RawToPushed, sides(&raw)),
     ];
     let name = |call: Call| format!("full.{}", call.name());
-    cases.map(|(call, sheets)| Case::new(name(call), call, sheets).with_tray(TRAY)).to_vec()
+    cases
+        .map(|(call, sheets)| Case::new(name(call), call, sheets).with_tray(MOST_INSTANCE_BYTES))
+        .to_vec()
 }
 
 /// Sigma at full size but for the number of rows.
@@ -145,7 +147,7 @@ pub fn grown(total: usize) -> Case {
     let (s, f) = two_copies(&t);
     let run = rows(&s, total / 16).to_sheet();
     let sheets = vec![s.to_sheet(), t.to_sheet(), f.to_sheet(), run];
-    Case::new(format!("rows.{total}"), Call::Sigma, sheets).with_tray(TRAY)
+    Case::new(format!("rows.{total}"), Call::Sigma, sheets).with_tray(MOST_INSTANCE_BYTES)
 }
 
 /// The longest sheets, and the schemas that cost most to refuse or to accept.
@@ -185,7 +187,7 @@ fn worst() -> Vec<Case> {
         check("closed_chain", closed),
         check("loops_at_one_node", graph(1, &[(0, 0); 32])),
         check("two_nodes_both_ways", graph(2, &both)),
-        Case::new("worst.pairs", Call::Pi, pairs).with_tray(TRAY),
+        Case::new("worst.pairs", Call::Pi, pairs).with_tray(MOST_INSTANCE_BYTES),
         Case { name: "worst.no_colouring".into(), ..complete_graph(5, 4, 4) },
         Case { name: "worst.many_colourings".into(), ..complete_graph(4, 4, 6) },
     ]

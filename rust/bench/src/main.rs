@@ -1,7 +1,8 @@
 //! What the calls cost.
 //!
 //! - `bench` prints for each case the nanoseconds of a call by the library, the
-//!   reference and, for Sigma and the check of instances, the plain version.
+//!   reference and, for Sigma and the check of instances, the plain version, and
+//!   before them what is kept from call to call.
 //! - `bench names` prints the cases; `bench once NAME WHO` makes one call, for a
 //!   counter of instructions.
 //! - `bench sql ROWS FOLDER` writes the same push as SQL scripts.
@@ -88,7 +89,15 @@ impl<'a> Timed<'a> {
 /// work on the machine disturbs all alike.
 const ROUNDS: usize = 12;
 
+/// The state in which a call finds sheets and trays.
+const STATE: &str = "\
+Sheets are those of the call before. The library and the plain version write into
+the tray of the call before; the reference makes a tray of its own at each call.
+The least time of a call over 12 rounds of 40 ms, in batches of at least 1 ms:
+";
+
 fn table() {
+    print!("{STATE}");
     println!("{:28} {:>8} {:>12} {:>12} {:>12}", "case", "bytes", "library", "plain", "reference");
     for case in inputs() {
         let version = |(_, who): (_, Who)| answers(who, case.call).then(|| Timed::new(who, &case));
@@ -108,13 +117,17 @@ fn table() {
     }
 }
 
-fn once(name: &str, who: &str) -> Option<()> {
-    let case = inputs().into_iter().find(|case| case.name == name)?;
-    let (_, who) = ALL.into_iter().find(|(known, _)| *known == who)?;
+/// One call by name, the first on its sheets, with a tray that nothing has
+/// touched yet.
+fn once(name: &str, who: &str) -> Result<(), String> {
+    let case = inputs().into_iter().find(|case| case.name == name);
+    let case = case.ok_or_else(|| format!("no case is named {name}"))?;
+    let mut versions = ALL.into_iter().filter(|&(_, version)| answers(version, case.call));
+    let version = versions.find(|(name, _)| *name == who);
+    let (_, who) = version.ok_or_else(|| format!("{name} is not answered by {who}"))?;
     let mut tray = vec![0; case.tray];
-    answers(who, case.call).then(|| {
-        black_box(measured(who, &case, &mut tray));
-    })
+    black_box(measured(who, &case, &mut tray));
+    Ok(())
 }
 
 fn main() -> ExitCode {
@@ -123,31 +136,33 @@ fn main() -> ExitCode {
     let done = match words.as_slice() {
         [] => {
             table();
-            Some(())
+            Ok(())
         }
         ["names"] => {
             for case in inputs() {
                 let known = ALL.iter().filter(|(_, who)| answers(*who, case.call));
                 known.for_each(|(who, _)| println!("{} {who}", case.name));
             }
-            Some(())
+            Ok(())
         }
         ["once", name, who] => once(name, who),
-        ["sql", rows, folder] => rows.parse().ok().and_then(|rows| write_scripts(rows, folder)),
-        _ => None,
+        ["sql", rows, folder] => write_scripts(rows, folder),
+        _ => Err("usage: bench [names | once NAME WHO | sql ROWS FOLDER]".to_string()),
     };
     match done {
-        Some(()) => ExitCode::SUCCESS,
-        None => {
-            eprintln!("usage: bench [names | once NAME WHO | sql ROWS FOLDER]");
+        Ok(()) => ExitCode::SUCCESS,
+        Err(what) => {
+            eprintln!("bench: {what}");
             ExitCode::from(2)
         }
     }
 }
 
-fn write_scripts(rows: usize, folder: &str) -> Option<()> {
+fn write_scripts(rows: &str, folder: &str) -> Result<(), String> {
+    let rows = rows.parse().map_err(|_| format!("{rows} is no number of rows"))?;
     for (name, text) in sql::scripts(rows) {
-        std::fs::write(Path::new(folder).join(name), text).ok()?;
+        let file = Path::new(folder).join(name);
+        std::fs::write(&file, text).map_err(|error| format!("{}: {error}", file.display()))?;
     }
-    Some(())
+    Ok(())
 }

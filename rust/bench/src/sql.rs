@@ -73,9 +73,7 @@ fn values(schema: &Schema, run: &Instance, node: usize, row: usize) -> String {
 /// The first place of a table's rows in the joined list.
 fn first_place(f: &Mapping, c: usize) -> String {
     let fibre = f.fibre(f.nodes[c]).into_iter().filter(|&before| before < c);
-    let counts: String =
-        fibre.map(|before| format!(" + (SELECT count(*) FROM s{before})")).collect();
-    counts
+    fibre.map(|before| format!(" + (SELECT count(*) FROM s{before})")).collect()
 }
 
 /// Sigma's table at d: the joined list over the fibre.  Every edge of T has one

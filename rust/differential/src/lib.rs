@@ -10,11 +10,9 @@ use migration::*;
 use std::fmt;
 use vectors::answer::{reference_outcome, Outcome, FILLING};
 use vectors::call::{Call, Case};
-use vectors::limits::{limits, longest};
-use vectors::papers::papers;
 use vectors::random::Random;
 use vectors::report::Report;
-use vectors::stream::{for_each_refusal, Chance};
+use vectors::stream::{fixed_and_refused, Chance};
 
 /// So many bytes on each side of a tray are not lent and must stay.
 const MARGIN: usize = 32;
@@ -51,13 +49,19 @@ fn hex(bytes: &[u8]) -> String {
     bytes.iter().map(|byte| format!("{byte:02X}")).collect::<Vec<_>>().join(" ")
 }
 
+/// `COUNT [SEED]` of a command line; the seed is 1 where none is given.
+pub fn count_and_seed(words: &[String]) -> Option<(usize, u64)> {
+    match words {
+        [count] => Some((count.parse().ok()?, 1)),
+        [count, seed] => Some((count.parse().ok()?, seed.parse().ok()?)),
+        _ => None,
+    }
+}
+
 /// Every kind of case: the fixed ones, those made for a refusal each, then by
 /// chance; `count` in all, or as many as are fixed where that is more.
 pub fn cases(seed: u64, count: usize) -> impl Iterator<Item = Case> {
-    let mut random = Random::seeded(seed);
-    let made = for_each_refusal(&mut random).into_iter().map(|made| made.case);
-    let first: Vec<Case> =
-        papers().into_iter().chain(limits()).chain(longest()).chain(made).collect();
+    let first = fixed_and_refused(&mut Random::seeded(seed));
     let more = count.saturating_sub(first.len());
     first.into_iter().chain(Chance::seeded(seed).take(more))
 }

@@ -4,11 +4,9 @@ use reference::push;
 use std::io::{self, Write};
 use std::path::Path;
 use std::process::{Command, Stdio};
-use vectors::call::{Call, Case};
-use vectors::limits::{limits, longest};
-use vectors::papers::papers;
+use vectors::call::Call;
 use vectors::random::Random;
-use vectors::stream::{for_each_refusal, Chance};
+use vectors::stream::{fixed_and_refused, Chance};
 
 /// An input on which the program and the reference differ.
 #[derive(Debug)]
@@ -25,10 +23,7 @@ pub struct OtherText {
 /// whole and then cut, with other lengths, or with bytes after them.
 pub fn inputs(seed: u64, count: usize) -> impl Iterator<Item = Vec<u8>> {
     let mut random = Random::seeded(seed);
-    let made = for_each_refusal(&mut random).into_iter().map(|made| made.case);
-    let first: Vec<Case> =
-        papers().into_iter().chain(limits()).chain(longest()).chain(made).collect();
-    let cases = first.into_iter().chain(Chance::seeded(seed));
+    let cases = fixed_and_refused(&mut random).into_iter().chain(Chance::seeded(seed));
     let framed = cases.filter(|case| case.call == Call::Sigma).map(|case| framed(&case.sheets));
     let both = framed.flat_map(move |input| [changed(&mut random, input.clone()), input]);
     [vec![], vec![0], vec![0, 7]].into_iter().chain(both).take(count)

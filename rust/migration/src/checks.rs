@@ -1,6 +1,7 @@
 //! The checks of schemas, mappings and instances, and the path question.
 
-use crate::{ffi, Refusal};
+use crate::ffi::call;
+use crate::Refusal;
 
 /// Checks a schema sheet (place 1).
 ///
@@ -15,7 +16,7 @@ use crate::{ffi, Refusal};
 /// # Errors
 /// 1 to 6 at place 1.
 pub fn check_schema(s: &[u8]) -> Result<(), Refusal> {
-    ffi::check_schema(s)
+    call!(migration_check_schema(s)).map(drop)
 }
 
 /// Checks a mapping sheet (place 3) of schema S (place 1) to schema T (place
@@ -35,7 +36,7 @@ pub fn check_schema(s: &[u8]) -> Result<(), Refusal> {
 /// # Errors
 /// 1 to 6 at place 1 or 2; 1, 2, 7, 8 at place 3.
 pub fn check_mapping(s: &[u8], t: &[u8], f: &[u8]) -> Result<(), Refusal> {
-    ffi::check_mapping(s, t, f)
+    call!(migration_check_mapping(s, t, f)).map(drop)
 }
 
 /// Checks an instance sheet (place 2) over a schema (place 1).
@@ -50,7 +51,7 @@ pub fn check_mapping(s: &[u8], t: &[u8], f: &[u8]) -> Result<(), Refusal> {
 /// # Errors
 /// 1 to 6 at place 1; 1, 2, 3, 9, 10, 11 at place 2.
 pub fn check_instance(s: &[u8], i: &[u8]) -> Result<(), Refusal> {
-    ffi::check_instance(s, i)
+    call!(migration_check_instance(s, i)).map(drop)
 }
 
 /// Whether two paths (places 2 and 3) of a schema (place 1) are equal by its
@@ -67,5 +68,5 @@ pub fn check_instance(s: &[u8], i: &[u8]) -> Result<(), Refusal> {
 /// # Errors
 /// 1 to 6 at place 1; 1, 2, 4 at place 2 or 3.
 pub fn same_path(s: &[u8], p: &[u8], q: &[u8]) -> Result<bool, Refusal> {
-    ffi::same_path(s, p, q)
+    call!(migration_same_path(s, p, q)).map(|equal| equal == 1)
 }

@@ -1,7 +1,8 @@
 //! The two checkers and the two turnings.  All four take S, T, mapping, run,
 //! book and list (places 1 to 6) and make the same tests.
 
-use crate::{ffi, whole, Refusal, MOST_MATCHING_BYTES};
+use crate::ffi::call;
+use crate::{whole, Refusal, MOST_MATCHING_BYTES};
 
 /// The pushed side's checker: whether the list is a matching from Sigma of the
 /// run to the book.
@@ -29,7 +30,7 @@ pub fn check_pushed(
     book: &[u8],
     list: &[u8],
 ) -> Result<(), Refusal> {
-    ffi::check_pushed(s, t, f, run, book, list)
+    call!(migration_check_pushed(s, t, f, run, book, list)).map(drop)
 }
 
 /// The raw side's checker: whether the list is a matching from the run to Delta
@@ -52,7 +53,7 @@ pub fn check_raw(
     book: &[u8],
     list: &[u8],
 ) -> Result<(), Refusal> {
-    ffi::check_raw(s, t, f, run, book, list)
+    call!(migration_check_raw(s, t, f, run, book, list)).map(drop)
 }
 
 /// Turns a matching of the pushed side into the one of the raw side in which
@@ -117,7 +118,7 @@ pub fn pushed_to_raw_into(
     list: &[u8],
     tray: &mut [u8],
 ) -> Result<usize, Refusal> {
-    ffi::pushed_to_raw_into(s, t, f, run, book, list, tray)
+    call!(migration_pushed_to_raw(s, t, f, run, book, list; tray))
 }
 
 /// Turns a matching of the raw side into the one of the pushed side in which
@@ -167,5 +168,5 @@ pub fn raw_to_pushed_into(
     list: &[u8],
     tray: &mut [u8],
 ) -> Result<usize, Refusal> {
-    ffi::raw_to_pushed_into(s, t, f, run, book, list, tray)
+    call!(migration_raw_to_pushed(s, t, f, run, book, list; tray))
 }

@@ -1,6 +1,7 @@
 //! Delta, Sigma and Pi.
 
-use crate::{ffi, whole, Refusal, MOST_INSTANCE_BYTES};
+use crate::ffi::call;
+use crate::{whole, Refusal, MOST_INSTANCE_BYTES};
 
 /// Delta of an instance of T (place 4) along a mapping of S to T: the sheet of
 /// an instance of S.
@@ -40,7 +41,7 @@ pub fn delta_into(
     j: &[u8],
     tray: &mut [u8],
 ) -> Result<usize, Refusal> {
-    ffi::delta_into(s, t, f, j, tray)
+    call!(migration_delta(s, t, f, j; tray))
 }
 
 /// Sigma of an instance of S (place 4) along an even mapping of S to T: the
@@ -56,7 +57,8 @@ pub fn delta_into(
 /// ```
 ///
 /// # Errors
-/// Those of the sheets at places 1 to 4, then 12, 15 at place 0.
+/// Those of the sheets at places 1 to 4, then 12 at place 0.  The result has as
+/// many rows as the run, so it is never overfull.
 pub fn sigma(s: &[u8], t: &[u8], f: &[u8], i: &[u8]) -> Result<Vec<u8>, Refusal> {
     whole(MOST_INSTANCE_BYTES, |tray| sigma_into(s, t, f, i, tray))
 }
@@ -89,7 +91,7 @@ pub fn sigma_into(
     i: &[u8],
     tray: &mut [u8],
 ) -> Result<usize, Refusal> {
-    ffi::sigma_into(s, t, f, i, tray)
+    call!(migration_sigma(s, t, f, i; tray))
 }
 
 /// Pi of an instance of S (place 4) along a mapping of S to T: the sheet of an
@@ -121,5 +123,5 @@ pub fn pi(s: &[u8], t: &[u8], f: &[u8], i: &[u8]) -> Result<Vec<u8>, Refusal> {
 /// # Errors
 /// Those of [`pi`], last 16 at place 0.
 pub fn pi_into(s: &[u8], t: &[u8], f: &[u8], i: &[u8], tray: &mut [u8]) -> Result<usize, Refusal> {
-    ffi::pi_into(s, t, f, i, tray)
+    call!(migration_pi(s, t, f, i; tray))
 }

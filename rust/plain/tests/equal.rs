@@ -3,10 +3,8 @@
 use plain::{check_instance, sigma, Refusal};
 use vectors::answer::{reference_outcome, Outcome, FILLING};
 use vectors::call::{Call, Case};
-use vectors::limits::{limits, longest};
-use vectors::papers::papers;
 use vectors::random::Random;
-use vectors::stream::{for_each_refusal, Chance};
+use vectors::stream::{fixed_and_refused, Chance};
 
 fn outcome(case: &Case) -> Outcome {
     let mut tray = vec![FILLING; case.tray];
@@ -21,9 +19,8 @@ fn outcome(case: &Case) -> Outcome {
 
 #[test]
 fn the_plain_version_and_the_reference_agree() {
-    let made = for_each_refusal(&mut Random::seeded(3)).into_iter().map(|made| made.case);
-    let fixed = papers().into_iter().chain(limits()).chain(longest());
-    let cases = fixed.chain(made).chain(Chance::seeded(4).take(20_000));
+    let first = fixed_and_refused(&mut Random::seeded(3)).into_iter();
+    let cases = first.chain(Chance::seeded(4).take(20_000));
     let mut tried = 0;
     for case in cases.filter(|case| matches!(case.call, Call::CheckInstance | Call::Sigma)) {
         assert_eq!(outcome(&case), reference_outcome(&case), "{case:?}");

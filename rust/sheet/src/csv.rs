@@ -130,6 +130,45 @@ pub(crate) fn line<S: AsRef<str>>(cells: &[S]) -> String {
     cells.join(",") + "\n"
 }
 
+/// The largest row number that a sheet's field holds.
+pub(crate) const FIELD_ROW: usize = 511;
+
+/// A header's cells, without empty ones at its end.
+pub(crate) fn headers(head: &Record) -> &[String] {
+    let last = head.cells.iter().rposition(|cell| !cell.is_empty());
+    &head.cells[..last.map_or(0, |last| last + 1)]
+}
+
+/// No cell stands beyond the `headers` that the file has.
+pub(crate) fn within_headers(record: &Record, headers: usize) -> Result<(), String> {
+    match record.cells.iter().skip(headers).find(|cell| !cell.is_empty()) {
+        Some(cell) => {
+            Err(format!("`{cell}` stands beyond the last header; expected {headers} cells"))
+        }
+        None => Ok(()),
+    }
+}
+
+/// Where row numbers with their lines, in order, are not 0, 1, 2 and so on, each
+/// once; `table` stands before a row's number.
+pub(crate) fn misnumbered(table: &str, rows: &[(usize, usize)]) -> Option<Broken> {
+    for (expected, &(row, line)) in rows.iter().enumerate() {
+        if row < expected {
+            let (_, first) = rows[expected - 1];
+            let what =
+                format!("{table}row {row} is already on line {first}; expected each row once");
+            return Some((line, what));
+        }
+        if row > expected {
+            let what = format!(
+                "{table}row {row}, but there is no row {expected}; expected rows 0, 1, 2 and so on"
+            );
+            return Some((line, what));
+        }
+    }
+    None
+}
+
 /// A whole number from 0 to `largest` in decimal digits.
 pub(crate) fn number(cell: &str, largest: u64) -> Result<u64, String> {
     let digits = !cell.is_empty() && cell.chars().all(|letter| letter.is_ascii_digit());

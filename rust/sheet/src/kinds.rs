@@ -58,11 +58,6 @@ pub fn name_of(number: usize) -> &'static str {
     KINDS.get(number).map_or("missing kind", |kind| kind.name)
 }
 
-/// The largest value of a kind; 0 for a number that is no kind.
-pub fn largest_of(number: usize) -> u32 {
-    KINDS.get(number).map_or(0, |kind| kind.largest)
-}
-
 /// The names of all kinds, for messages.
 pub(crate) fn all_names() -> String {
     KINDS.map(|kind| kind.name).join(", ")

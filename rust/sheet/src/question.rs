@@ -89,7 +89,7 @@ impl Call {
     }
 
     /// Whether its list is one of the pushed side.
-    pub(crate) fn is_pushed(self) -> bool {
+    pub fn is_pushed(self) -> bool {
         matches!(self, Call::CheckPushed | Call::PushedToRaw)
     }
 }
@@ -169,7 +169,8 @@ impl Question {
         }
     }
 
-    fn sheet(&self, role: Role) -> &[u8] {
+    /// The bytes of the sheet with a role; none where it is missing.
+    pub fn sheet(&self, role: Role) -> &[u8] {
         self.lent(role).map_or(&[], |lent| &lent.sheet)
     }
 
@@ -254,14 +255,23 @@ impl Question {
         }
     }
 
-    /// The row counts of the instance that the list starts from, by the run's
-    /// counts: those of Sigma's result or of the run itself.
+    /// The row counts of the instance that the list starts from.
     pub(crate) fn list_counts(&self) -> Option<Vec<usize>> {
-        let run = self.run_decoded()?;
-        if !self.call.is_pushed() {
-            return Some(run.rows);
+        match self.call.is_pushed() {
+            true => self.pushed_counts(),
+            false => self.run_counts(),
         }
-        let mapping = self.mapping_decoded()?;
+    }
+
+    /// The row counts of the run; none where it cannot be decoded.
+    pub fn run_counts(&self) -> Option<Vec<usize>> {
+        self.run_decoded().map(|run| run.rows)
+    }
+
+    /// The row counts of the pushed run: those of the tables over each node of T
+    /// joined.  None where the run or the mapping cannot be decoded.
+    pub fn pushed_counts(&self) -> Option<Vec<usize>> {
+        let (run, mapping) = (self.run_decoded()?, self.mapping_decoded()?);
         let joined = |node| mapping.fibre(node).into_iter().map(|c| run.count(c)).sum();
         Some((0..self.t_schema()?.nodes.len()).map(joined).collect())
     }

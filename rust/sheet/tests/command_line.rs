@@ -30,6 +30,13 @@ fn bad_usage_has_status_2_and_points_to_the_help() {
     told("pack path vendor.schema", "expected SCHEMA PATH; 1 given", " pack");
     told("show matching vendor.schema", "expected SCHEMA INSTANCE LIST; 1 given", " show");
     told("check schema vendor.schema --hex", "check takes no --hex", " check");
+    for line in [
+        "show schema vendor.schema -o a.sheet",
+        "show instance vendor.schema run -o a.sheet",
+        "show matching vendor.schema run raw.csv -o sheet:-",
+    ] {
+        told(line, "show writes text; pack writes sheets", " show");
+    }
     told("sigma --tray many", "--tray many; expected a number of bytes", "");
     told("sigma -o", "expected a file or folder after -o", "");
     told("sigma --force=yes", "--force takes no value", "");

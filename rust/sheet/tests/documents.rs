@@ -4,7 +4,7 @@
 
 mod common;
 
-use common::{documentation, example, names_in, Folder};
+use common::{documentation, example, names_in, repository, Folder};
 use sheet::{Mapping, Schema};
 use std::fs;
 use std::path::Path;
@@ -72,11 +72,10 @@ fn the_examples_readmes_show_what_the_command_does() {
 /// command of it, and showing a file that it wrote.
 #[test]
 fn the_readme_shows_what_the_command_does() {
-    let root = documentation().join("../..");
     let folder = Folder::new("page-readme");
     fs::create_dir_all(folder.join("examples/base")).unwrap();
     common::copy(&example("base"), &folder.join("examples/base"));
-    let readme = fs::read_to_string(root.join("README.md")).unwrap();
+    let readme = fs::read_to_string(repository().join("README.md")).unwrap();
     let block = blocks(&readme).into_iter().find(|(sort, _)| sort == "console");
     let (_, lines) = block.expect("a console block");
     let commands: Vec<&String> = lines.iter().filter(|line| line.starts_with("$ ")).collect();

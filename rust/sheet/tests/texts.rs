@@ -214,6 +214,11 @@ fn matchings() {
         told("table,row,partner,why\n"),
         "a.csv line 1: header `why`; expected `table,row,partner`\n"
     );
+    assert_eq!(told("table,row,row,partner\n"), "a.csv line 1: expected `table,row,partner`\n");
+    assert_eq!(
+        told("table,row,partner\nAnomaly,0,2,9\n"),
+        "a.csv line 2: `9` stands beyond the last header; expected 3 cells\n"
+    );
     assert_eq!(
         told("table,row,partner\nDent,0,0\nJoint,x,0\nJoint,0,512\n"),
         "a.csv line 2: no table is named `Dent`; the tables: Anomaly, Joint

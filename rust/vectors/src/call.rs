@@ -100,11 +100,6 @@ impl Call {
         use Call::*;
         matches!(self, Delta | Sigma | Pi | PushedToRaw | RawToPushed)
     }
-
-    /// Whether the call takes run, book and list.
-    pub fn has_list(self) -> bool {
-        self.sheets().contains(&Kind::List)
-    }
 }
 
 /// One call with the sheets and the tray that it is lent.

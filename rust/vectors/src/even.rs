@@ -243,7 +243,7 @@ fn make_uneven(random: &mut Random, mapped: &mut Mapped, reason: Unevenness) -> 
             t.attributes.push(Attribute { node: f.nodes[c], kind: random.below(16) });
         }
         Unevenness::ColumnWithTwoLifts => {
-            let a = random.any_of(&(0..s.attributes.len()).collect::<Vec<_>>())?;
+            let a = random.any_in(0..s.attributes.len())?;
             s.attributes.push(s.attributes[a]);
             f.attributes.push(f.attributes[a]);
         }
@@ -270,7 +270,7 @@ fn make_uneven(random: &mut Random, mapped: &mut Mapped, reason: Unevenness) -> 
             f.edges.push(f.path_image(&p).edges);
         }
         Unevenness::EquationLeftOut => {
-            let left_out = random.any_of(&(0..s.equations.len()).collect::<Vec<_>>())?;
+            let left_out = random.any_in(0..s.equations.len())?;
             s.equations.remove(left_out);
         }
     }

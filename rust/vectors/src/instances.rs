@@ -9,9 +9,6 @@ use crate::random::Random;
 use reference::paths::Classes;
 use reference::plain::*;
 
-/// The largest number of rows of all tables together.
-pub const MOST_ROWS: usize = 512;
-
 /// A value of a kind: now and then the largest, else one of few, so that equal
 /// values are common.
 pub fn value(random: &mut Random, kind: usize) -> u32 {
@@ -26,30 +23,20 @@ pub fn value(random: &mut Random, kind: usize) -> u32 {
 /// An accepted instance of an accepted schema with some `generators` rows that
 /// no equation speaks of, and at most 512 rows.
 pub fn instance(random: &mut Random, schema: &Schema, generators: usize) -> Instance {
-    instance_over(random, schema, &Classes::of(schema), generators)
-}
-
-/// The same, with the schema's classes of paths at hand.
-pub fn instance_over(
-    random: &mut Random,
-    schema: &Schema,
-    classes: &Classes,
-    generators: usize,
-) -> Instance {
+    let classes = Classes::of(schema);
     let mut tables = Tables::empty(schema);
     for _ in 0..random.below(generators + 1) {
         let node = random.below(schema.nodes);
-        if !tables.generate(schema, classes, node) {
+        if !tables.generate(schema, &classes, node) {
             break;
         }
     }
     for _ in 0..random.below(tables.count() / 2 + 1) {
         let table = random.below(schema.nodes);
-        if let Some(rows) = tables.live(table).get(..) {
-            if rows.len() > 1 {
-                let (a, b) = (*random.one_of(rows), *random.one_of(rows));
-                tables.merge(schema, table, a, b);
-            }
+        let rows = tables.live(table);
+        if rows.len() > 1 {
+            let (a, b) = (*random.one_of(&rows), *random.one_of(&rows));
+            tables.merge(schema, table, a, b);
         }
     }
     let plain = tables.instance(random, schema);
@@ -78,7 +65,7 @@ impl Tables {
     fn generate(&mut self, schema: &Schema, classes: &Classes, node: usize) -> bool {
         let firsts: Vec<&Path> =
             classes.from(node).filter(|p| classes.first(classes.class(p)) == *p).collect();
-        if self.count() + firsts.len() > MOST_ROWS {
+        if self.count() + firsts.len() > Instance::MOST_ROWS {
             return false;
         }
         let end = |p: &Path| p.end(schema).expect("a path of the schema");
@@ -169,7 +156,7 @@ pub fn shuffled(
 /// The rows of one instance and after them those of another; nothing if there
 /// would be too many.
 pub fn beside(schema: &Schema, one: &Instance, other: &Instance) -> Option<Instance> {
-    if one.total_rows() + other.total_rows() > MOST_ROWS {
+    if one.total_rows() + other.total_rows() > Instance::MOST_ROWS {
         return None;
     }
     let rows = one.rows.iter().zip(&other.rows).map(|(a, b)| a + b).collect();

@@ -1,5 +1,7 @@
 //! The generator of random numbers.
 
+use std::ops::Range;
+
 /// Marsaglia's xorshift generator.
 #[derive(Debug, Clone)]
 pub struct Random(u64);
@@ -26,6 +28,11 @@ impl Random {
     /// One of a list that is not empty.
     pub fn one_of<'a, T>(&mut self, list: &'a [T]) -> &'a T {
         &list[self.below(list.len())]
+    }
+
+    /// A number of a range, if there is one.
+    pub fn any_in(&mut self, range: Range<usize>) -> Option<usize> {
+        (!range.is_empty()).then(|| range.start + self.below(range.len()))
     }
 
     /// One of a list, if it is not empty.

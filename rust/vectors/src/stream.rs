@@ -6,7 +6,9 @@ use crate::call::{Call, Case};
 use crate::damage::Damage;
 use crate::even::{even_mapping, uneven_mapping, Unevenness};
 use crate::instances::instance;
+use crate::limits::{limits, longest};
 use crate::mappings::mapping;
+use crate::papers::papers;
 use crate::puzzles::any_colourings;
 use crate::random::Random;
 use crate::world::{Sheet, World};
@@ -39,6 +41,12 @@ pub fn for_each_refusal(random: &mut Random) -> Vec<Expected> {
     }
     cases.extend(for_no_single_sheet(random));
     cases
+}
+
+/// The fixed cases, the longest too, and one for each refusal.
+pub fn fixed_and_refused(random: &mut Random) -> Vec<Case> {
+    let refused = for_each_refusal(random).into_iter().map(|expected| expected.case);
+    papers().into_iter().chain(limits()).chain(longest()).chain(refused).collect()
 }
 
 /// A case of a call with a damaged sheet, from the first world that allows it.

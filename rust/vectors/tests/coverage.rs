@@ -1,8 +1,9 @@
 //! What the stored cases must have among them.
 
+use reference::bits::BitReader;
 use reference::plain::*;
 use reference::Refusal;
-use std::collections::BTreeMap;
+use std::collections::{BTreeMap, BTreeSet};
 use std::sync::OnceLock;
 use vectors::answer::{reference_outcome, Outcome};
 use vectors::call::{Call, Case, Kind};
@@ -233,6 +234,23 @@ impl Opened {
         Instance::accept(schema, &self.outcome.tray[..length]).expect("an accepted result")
     }
 
+    /// Of a turning: the book row that each row of the run meets, with its
+    /// table.
+    fn book_rows(&self) -> Vec<(usize, usize)> {
+        let length = self.outcome.answer.expect("an accepted case");
+        let raw = match self.case.call {
+            Call::PushedToRaw => &self.outcome.tray[..length],
+            _ => &self.case.sheets[5],
+        };
+        let mut reader = BitReader::new(raw);
+        let mut met = Vec::new();
+        for (&rows, &d) in self.instance.rows.iter().zip(&self.mapped.f.nodes) {
+            let partners = reader.numbers(rows, 9).expect("a partner for each row");
+            met.extend(partners.into_iter().map(|partner| (d, partner)));
+        }
+        met
+    }
+
     /// The number of nodes of S over each node of T.
     fn preimages(&self) -> Vec<usize> {
         (0..self.mapped.t.nodes).map(|d| self.mapped.f.fibre(d).len()).collect()
@@ -304,11 +322,8 @@ const OF_TURNING: [(&str, Feature); 3] = [
         o.outcome.tray[..o.outcome.answer.unwrap_or(0)] != o.case.sheets[5][..]
     }),
     ("two rows with one partner", |o| {
-        let Mapped { s, f, .. } = &o.mapped;
-        let rows = o.instance.rows.iter();
-        let book = Instance::accept(&o.mapped.t, &o.case.sheets[4]).expect("a book");
-        s.nodes > 1 && rows.zip(&f.nodes).any(|(&rows, &d)| rows > book.rows[d])
-            || o.preimages().iter().any(|&count| count > 1) && o.instance.total_rows() > 1
+        let met = o.book_rows();
+        met.iter().collect::<BTreeSet<_>>().len() < met.len()
     }),
     ("no rows", |o| o.instance.total_rows() == 0),
 ];

@@ -1,5 +1,6 @@
 //! What Pi's search for families costs on sheets made to be hard for it: each
-//! line has a puzzle, its bytes, its answer and the milliseconds of one call.
+//! line has a puzzle, its bytes, its answer and the milliseconds of one call,
+//! the first on its sheets, with a tray of zeros that nothing has touched yet.
 //!
 //! A puzzle has a table of points and a table of pairs of points (S), and asks
 //! for a point at each of some places such that certain places have a pair (T):
@@ -10,8 +11,6 @@
 use reference::plain::*;
 use std::time::Instant;
 use vectors::build::*;
-
-const TRAY: usize = 51_220;
 
 /// A question of Pi, by its sheets.
 struct Puzzle {
@@ -99,7 +98,13 @@ fn puzzles() -> Vec<Puzzle> {
         of("20 edges on 10 points in 3 colours", &ten_points, 3, &coloured(3, 3), 1),
         of("5 points all different in 4 colours", &clique(5), 4, &coloured(4, 4), 1),
         of("6 points all different in 5 colours", &clique(6), 5, &coloured(5, 5), 1),
-        of("4 points that can differ, 5 that cannot", &two_groups, 4, &coloured(4, 4), 1),
+        of(
+            "two groups: 4 points that can differ, 5 that cannot, in 4 colours",
+            &two_groups,
+            4,
+            &coloured(4, 4),
+            1,
+        ),
         of("ring of 21, each row forced, 128 rows", &ring(21), 128, &ring(128), 1),
         of("ring of 27, each row forced, 250 rows", &ring(27), 250, &ring(250), 1),
         of("6 points, all pairs, 24 of 5 colours", &clique(6), 24, &coloured(24, 5), 1),
@@ -109,15 +114,16 @@ fn puzzles() -> Vec<Puzzle> {
 }
 
 fn main() {
+    println!("Pi on sheets made to be hard for its search: one call each, the first on its sheets");
     for Puzzle { name, sheets: [s, t, f, i] } in puzzles() {
         let bytes = [&s, &t, &f, &i].map(|sheet| sheet.len()).iter().sum::<usize>();
-        let mut tray = vec![0; TRAY];
+        let mut tray = vec![0; migration::MOST_INSTANCE_BYTES];
         let start = Instant::now();
         let answer = match migration::pi_into(&s, &t, &f, &i, &mut tray) {
             Ok(length) => format!("{length} bytes"),
             Err(refusal) => format!("refused {}", refusal.number),
         };
         let spent = start.elapsed().as_secs_f64() * 1e3;
-        println!("{name:<42} {bytes:>5} bytes lent  {answer:<12} {spent:>9.1} ms");
+        println!("{name:<66} {bytes:>5} bytes lent  {answer:<12} {spent:>9.1} ms");
     }
 }

@@ -1,23 +1,16 @@
 //! `push-differential PROGRAM COUNT [SEED]`: runs the program `push` on so many
 //! inputs and compares what it prints with the reference's text.
 
+use differential::count_and_seed;
 use differential::program::{compare_texts, inputs};
 use std::path::Path;
 use std::process::ExitCode;
 
 fn main() -> ExitCode {
     let words: Vec<String> = std::env::args().skip(1).collect();
-    let (program, numbers) = match words.as_slice() {
-        [program, numbers @ ..] => (Path::new(program), numbers),
-        _ => return usage(),
-    };
-    let numbers: Option<Vec<u64>> = numbers.iter().map(|word| word.parse().ok()).collect();
-    let (count, seed) = match numbers.as_deref() {
-        Some(&[count]) => (count, 1),
-        Some(&[count, seed]) => (count, seed),
-        _ => return usage(),
-    };
-    match compare_texts(program, inputs(seed, count as usize)) {
+    let Some((program, rest)) = words.split_first() else { return usage() };
+    let Some((count, seed)) = count_and_seed(rest) else { return usage() };
+    match compare_texts(Path::new(program), inputs(seed, count)) {
         Ok(Ok([refusals, tables])) => {
             println!("push: {tables} tables, {refusals} refusals, 0 differences");
             ExitCode::SUCCESS
@@ -31,7 +24,7 @@ fn main() -> ExitCode {
             ExitCode::FAILURE
         }
         Err(error) => {
-            eprintln!("{}: {error}", program.display());
+            eprintln!("{}: {error}", program);
             ExitCode::FAILURE
         }
     }

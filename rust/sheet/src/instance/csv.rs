@@ -3,13 +3,12 @@
 
 use super::{Instance, TableText};
 use crate::bits::counted;
-use crate::csv::{self, Record};
+use crate::csv::{self, Record, FIELD_ROW};
 use crate::names::{listed, ROW};
 use crate::schema::Schema;
 use crate::text::TextError;
 
-/// The largest row number and the largest count that a sheet's fields hold.
-const FIELD_ROW: usize = 511;
+/// The largest row count that a sheet's field holds.
 const FIELD_COUNT: usize = 1023;
 
 /// A column of a table's file.
@@ -186,7 +185,7 @@ fn read_table(table: &TableText, schema: &Schema, node: usize) -> Result<Vec<Row
         }
     }
     if errors.is_empty() {
-        errors = number_errors(&table.file, &mut rows);
+        errors.extend(number_error(&table.file, &mut rows));
     }
     match errors.is_empty() {
         true => Ok(rows.into_iter().map(|(_, row)| row).collect()),
@@ -199,9 +198,8 @@ fn read_table(table: &TableText, schema: &Schema, node: usize) -> Result<Vec<Row
 fn read_header(head: &Record, schema: &Schema, node: usize) -> Result<Vec<Field>, String> {
     let known = fields(schema, node);
     let expected = header(schema, node).join(",");
-    let filled = head.cells.iter().rposition(|cell| !cell.is_empty()).map_or(0, |last| last + 1);
     let mut places = Vec::new();
-    for cell in &head.cells[..filled] {
+    for cell in csv::headers(head) {
         let field = known.iter().find(|&&field| field_name(schema, field) == cell);
         let field = *field.ok_or_else(|| format!("header `{cell}`; expected `{expected}`"))?;
         if places.contains(&field) {
@@ -218,13 +216,7 @@ fn read_header(head: &Record, schema: &Schema, node: usize) -> Result<Vec<Field>
 }
 
 fn read_row(record: &Record, places: &[Field], schema: &Schema) -> Result<(usize, Row), String> {
-    let beyond = record.cells.iter().skip(places.len()).find(|cell| !cell.is_empty());
-    if let Some(cell) = beyond {
-        return Err(format!(
-            "`{cell}` stands beyond the last header; expected {} cells",
-            places.len()
-        ));
-    }
+    csv::within_headers(record, places.len())?;
     let (mut number, mut links, mut values) = (0, Vec::new(), Vec::new());
     for (place, &field) in places.iter().enumerate() {
         let cell = record.cells.get(place).map_or("", String::as_str);
@@ -244,25 +236,13 @@ fn read_row(record: &Record, places: &[Field], schema: &Schema) -> Result<(usize
 }
 
 /// Sorts the rows by their numbers, which are 0, 1, 2 and so on, each once.
-fn number_errors(file: &str, rows: &mut [(usize, Row)]) -> Vec<TextError> {
+fn number_error(file: &str, rows: &mut [(usize, Row)]) -> Option<TextError> {
     if rows.len() > FIELD_COUNT {
         let (count, most) = (rows.len(), Instance::MOST_ROWS);
-        return vec![TextError::of(file, format!("{count} rows; an instance has at most {most}"))];
+        return Some(TextError::of(file, format!("{count} rows; an instance has at most {most}")));
     }
     rows.sort_by_key(|(number, row)| (*number, row.line));
-    for (expected, (number, row)) in rows.iter().enumerate() {
-        let line = row.line;
-        if *number < expected {
-            let first = rows[expected - 1].1.line;
-            let what = format!("row {number} is already on line {first}; expected each row once");
-            return vec![TextError::at(file, line, what)];
-        }
-        if *number > expected {
-            let what = format!(
-                "row {number}, but there is no row {expected}; expected rows 0, 1, 2 and so on"
-            );
-            return vec![TextError::at(file, line, what)];
-        }
-    }
-    Vec::new()
+    let numbers: Vec<(usize, usize)> =
+        rows.iter().map(|(number, row)| (*number, row.line)).collect();
+    csv::misnumbered("", &numbers).map(|(line, what)| TextError::at(file, line, what))
 }

@@ -1,15 +1,12 @@
 //! Matchings as CSV: table, row, partner.
 
 use super::Matching;
-use crate::csv::{self, Record};
+use crate::csv::{self, Record, FIELD_ROW};
 use crate::names::listed;
 use crate::schema::Schema;
 use crate::text::{Lines, TextError};
 
 const HEADER: [&str; 3] = ["table", "row", "partner"];
-
-/// The largest row number that a sheet's field holds.
-const FIELD_ROW: u64 = 511;
 
 impl Matching {
     /// Reads a matching's CSV over the schema of its rows' tables.  `file` is
@@ -79,18 +76,13 @@ struct Entry {
 /// The places of table, row and partner among the cells.
 fn read_header(head: &Record) -> Result<[usize; 3], String> {
     let expected = HEADER.join(",");
-    let mut places = [0; 3];
-    for (place, name) in places.iter_mut().zip(HEADER) {
-        let mut found = head.cells.iter().enumerate().filter(|(_, cell)| *cell == name);
-        *place = match (found.next(), found.next()) {
-            (Some((place, _)), None) => place,
-            _ => return Err(format!("expected `{expected}`")),
-        };
+    let headers = csv::headers(head);
+    if let Some(cell) = headers.iter().find(|cell| !HEADER.contains(&cell.as_str())) {
+        return Err(format!("header `{cell}`; expected `{expected}`"));
     }
-    let known = |cell: &&String| cell.is_empty() || HEADER.contains(&cell.as_str());
-    match head.cells.iter().find(|cell| !known(cell)) {
-        Some(cell) => Err(format!("header `{cell}`; expected `{expected}`")),
-        None => Ok(places),
+    match HEADER.map(|name| headers.iter().position(|cell| cell == name)) {
+        [Some(table), Some(row), Some(partner)] if headers.len() == 3 => Ok([table, row, partner]),
+        _ => Err(format!("expected `{expected}`")),
     }
 }
 
@@ -99,12 +91,13 @@ fn read_entry(
     [table, row, partner]: [usize; 3],
     schema: &Schema,
 ) -> Result<(usize, Entry), String> {
+    csv::within_headers(record, HEADER.len())?;
     let cell = |place: usize| record.cells.get(place).map_or("", String::as_str);
     let node = schema.node(cell(table)).ok_or_else(|| {
         format!("no table is named `{}`; the tables: {}", cell(table), listed(&schema.nodes))
     })?;
     let number = |place, name: &str| {
-        csv::number(cell(place), FIELD_ROW).map_err(|what| format!("{name} {what}"))
+        csv::number(cell(place), FIELD_ROW as u64).map_err(|what| format!("{name} {what}"))
     };
     let row = number(row, "row")? as usize;
     let partner = number(partner, "partner")? as usize;
@@ -115,18 +108,8 @@ fn read_entry(
 /// once.
 fn number_error(file: &str, table: &str, entries: &mut [Entry]) -> Option<TextError> {
     entries.sort_by_key(|entry| (entry.row, entry.line));
-    for (expected, entry) in entries.iter().enumerate() {
-        let row = entry.row;
-        if row < expected {
-            let first = entries[expected - 1].line;
-            let what =
-                format!("{table} row {row} is already on line {first}; expected each row once");
-            return Some(TextError::at(file, entry.line, what));
-        }
-        if row > expected {
-            let what = format!("{table} row {row}, but there is no row {expected}; expected rows 0, 1, 2 and so on");
-            return Some(TextError::at(file, entry.line, what));
-        }
-    }
-    None
+    let numbers: Vec<(usize, usize)> =
+        entries.iter().map(|entry| (entry.row, entry.line)).collect();
+    let broken = csv::misnumbered(&format!("{table} "), &numbers);
+    broken.map(|(line, what)| TextError::at(file, line, what))
 }

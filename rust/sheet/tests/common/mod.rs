@@ -1,36 +1,29 @@
 //! What several test programs share: the examples, folders to write in, and
 //! running the command.
 
-#![allow(dead_code)]
+#![allow(dead_code, unused_imports)]
 
 pub mod generate;
+
+pub use vectors::build::hex;
 
 use std::fs;
 use std::path::{Path, PathBuf};
 use std::process::{Command, Output, Stdio};
 
-/// The bytes that a text of hexadecimal numbers names.
-pub fn hex(text: &str) -> Vec<u8> {
-    let numbers = text.split_whitespace();
-    numbers.map(|number| u8::from_str_radix(number, 16).expect("a hexadecimal byte")).collect()
-}
-
-/// The folder of an example, `examples/NAME` or `examples-NAME` in a folder
-/// above this crate.
+/// The folder of an example.
 pub fn example(name: &str) -> PathBuf {
-    above(&[&format!("examples/{name}"), &format!("examples-{name}")])
+    repository().join("examples").join(name)
 }
 
-/// The folder of the documentation, `docs/sheet` or `docs-sheet` in a folder
-/// above this crate.
+/// The folder of the tool's documentation.
 pub fn documentation() -> PathBuf {
-    above(&["docs/sheet", "docs-sheet"])
+    repository().join("docs/sheet")
 }
 
-fn above(names: &[&str]) -> PathBuf {
-    let folders = Path::new(env!("CARGO_MANIFEST_DIR")).ancestors();
-    let mut found = folders.flat_map(|folder| names.iter().map(|name| folder.join(name)));
-    found.find(|folder| folder.is_dir()).expect("a folder above this crate")
+/// The repository's folder.
+pub fn repository() -> PathBuf {
+    Path::new(env!("CARGO_MANIFEST_DIR")).join("../..")
 }
 
 /// A folder of a test's own, new at each run.

@@ -31,7 +31,7 @@ pub enum InstanceDamage {
     DanglingAndOffScale,
     /// A bent row and a value off scale: 10.
     OffScaleAndBent,
-    /// A dangling link and a filling bit: 2.
+    /// A dangling link and a byte that follows: 2.
     DanglingAndTail,
 }
 
@@ -142,7 +142,7 @@ fn raise(
 /// Makes the two sides of an equation lead to different rows, by another link.
 fn bend(random: &mut Random, schema: &Schema, instance: &mut Instance) -> Option<()> {
     for _ in 0..20 {
-        let edge = random.any_of(&(0..schema.edges.len()).collect::<Vec<_>>())?;
+        let edge = random.any_in(0..schema.edges.len())?;
         if instance.links[edge].is_empty() {
             continue;
         }

@@ -37,7 +37,7 @@ impl ListDamage {
             PartnerBeyond => list.partners[table][row] = count,
             PartnerFar => list.partners[table][row] = 511,
             OtherPartner => {
-                list.partners[table][row] = random.any_of(&(0..count).collect::<Vec<_>>())?;
+                list.partners[table][row] = random.any_in(0..count)?;
             }
             Exchanged => list.partners[table].swap(row, random.below(rows)),
         }

@@ -67,17 +67,17 @@ impl MappingDamage {
         let mut done = Mapped { s: s.clone(), t: t.clone(), f: f.clone() };
         match self {
             NodeMissing => {
-                let image = missing(random, t.nodes, 16)?;
+                let image = random.any_in(t.nodes..16)?;
                 *any_mut(random, &mut done.f.nodes)? = image;
             }
             EdgeMissing => {
-                let edge = missing(random, t.edges.len(), 32)?;
+                let edge = random.any_in(t.edges.len()..32)?;
                 let image = any_mut(random, &mut done.f.edges)?;
                 image.truncate(14);
                 image.push(edge);
             }
             AttributeMissing => {
-                let image = missing(random, t.attributes.len(), 16)?;
+                let image = random.any_in(t.attributes.len()..16)?;
                 *any_mut(random, &mut done.f.attributes)? = image;
             }
             LooseImage | OtherStart | OtherEnd => self.other_image(random, &mut done)?,
@@ -97,7 +97,7 @@ impl MappingDamage {
     /// Another image for an edge of S, that does not fit.
     fn other_image(self, random: &mut Random, done: &mut Mapped) -> Option<()> {
         let Mapped { s, t, f } = done;
-        let edge = random.any_of(&(0..s.edges.len()).collect::<Vec<_>>())?;
+        let edge = random.any_in(0..s.edges.len())?;
         let [start, end] = [s.edges[edge].source, s.edges[edge].target].map(|c| f.nodes[c]);
         let images: Vec<Vec<usize>> = match self {
             LooseImage => {
@@ -124,7 +124,7 @@ impl MappingDamage {
     /// Another image for an attribute of S, that does not fit.
     fn other_attribute(self, random: &mut Random, done: &mut Mapped) -> Option<()> {
         let Mapped { s, t, f } = done;
-        let a = random.any_of(&(0..s.attributes.len()).collect::<Vec<_>>())?;
+        let a = random.any_in(0..s.attributes.len())?;
         let here = s.attributes[a];
         let fits = |b: &usize| {
             let there = t.attributes[*b];
@@ -150,15 +150,8 @@ fn broken_rule(random: &mut Random, s: &Schema, t: &Schema, f: &Mapping) -> Opti
     Some(Equation { left, right })
 }
 
-/// A number from `count` up to `bound`.
-fn missing(random: &mut Random, count: usize, bound: usize) -> Option<usize> {
-    random.any_of(&(count..bound).collect::<Vec<_>>())
-}
-
 /// One of a list.
 fn any_mut<'a, T>(random: &mut Random, list: &'a mut [T]) -> Option<&'a mut T> {
-    match list.len() {
-        0 => None,
-        length => list.get_mut(random.below(length)),
-    }
+    let place = random.any_in(0..list.len())?;
+    list.get_mut(place)
 }

@@ -122,16 +122,21 @@ impl Damage {
     }
 
     /// A damaged sheet of any kind.
-    fn done_to_any(self, random: &mut Random, mut sheet: Vec<u8>, filling: u32) -> Option<Vec<u8>> {
+    fn done_to_any(
+        self,
+        random: &mut Random,
+        mut sheet: Vec<u8>,
+        filling: usize,
+    ) -> Option<Vec<u8>> {
         match self {
             Damage::Empty => (!sheet.is_empty()).then(Vec::new),
             Damage::LastByteMissing => sheet.pop().map(|_| sheet),
             Damage::Cut => {
-                let length = random.any_of(&(1..sheet.len()).collect::<Vec<_>>())?;
+                let length = random.any_in(1..sheet.len())?;
                 Some(sheet[..length].to_vec())
             }
             Damage::FillingBit => {
-                let bit = random.any_of(&(0..filling).collect::<Vec<_>>())?;
+                let bit = random.any_in(0..filling)?;
                 *sheet.last_mut()? |= 1 << bit;
                 Some(sheet)
             }
@@ -147,7 +152,7 @@ impl Damage {
 }
 
 /// The number of filling bits of an accepted sheet.
-fn filling_bits(lent: &[Sheet], place: usize) -> u32 {
+fn filling_bits(lent: &[Sheet], place: usize) -> usize {
     let bits: usize = match &lent[place] {
         Sheet::Schema(schema) => schema_bits(schema),
         Sheet::Mapping(f) => {
@@ -162,7 +167,7 @@ fn filling_bits(lent: &[Sheet], place: usize) -> u32 {
         Sheet::Path(path) => 8 + 5 * path.edges.len(),
         Sheet::List(Matching { partners }) => 9 * partners.iter().map(Vec::len).sum::<usize>(),
     };
-    (bits.next_multiple_of(8) - bits) as u32
+    bits.next_multiple_of(8) - bits
 }
 
 fn schema_bits(schema: &Schema) -> usize {

@@ -27,16 +27,15 @@ impl PathDamage {
     /// The damaged sheet.
     pub fn done_to(self, random: &mut Random, schema: &Schema, path: &Path) -> Option<Vec<u8>> {
         let mut path = path.clone();
-        let edge =
-            |random: &mut Random| random.any_of(&(0..schema.edges.len()).collect::<Vec<_>>());
+        let edge = |random: &mut Random| random.any_in(0..schema.edges.len());
         match self {
             StartMissing => {
-                path.start = random.any_of(&(schema.nodes..16).collect::<Vec<_>>())?;
+                path.start = random.any_in(schema.nodes..16)?;
                 path.edges.truncate(random.below(2));
             }
             EdgeMissing => {
                 path.edges.truncate(14);
-                path.edges.push(random.any_of(&(schema.edges.len()..32).collect::<Vec<_>>())?);
+                path.edges.push(random.any_in(schema.edges.len()..32)?);
             }
             OtherStart => {
                 let edge = edge(random)?;

@@ -124,7 +124,7 @@ impl SchemaDamage {
 
     /// The schema with an edge or an attribute at a missing node.
     fn stray(self, random: &mut Random, mut schema: Schema) -> Option<Schema> {
-        let node = missing(random, schema.nodes)?;
+        let node = random.any_in(schema.nodes..16)?;
         match self {
             StraySource => {
                 let edge = any_edge(random, &schema)?;
@@ -146,9 +146,9 @@ impl SchemaDamage {
     fn equation(self, random: &mut Random, schema: &Schema) -> Option<Equation> {
         let same = |start: usize, edges: &[usize]| build::equation(start, edges, edges);
         match self {
-            StrayStart => Some(same(missing(random, schema.nodes)?, &[])),
+            StrayStart => Some(same(random.any_in(schema.nodes..16)?, &[])),
             StrayEdge => {
-                let edge = random.any_of(&(schema.edges.len()..32).collect::<Vec<_>>())?;
+                let edge = random.any_in(schema.edges.len()..32)?;
                 Some(same(random.below(schema.nodes), &[edge]))
             }
             LooseEdges => {
@@ -209,12 +209,7 @@ fn within_counts(schema: Schema) -> Option<Vec<u8>> {
 
 /// The number of an edge.
 fn any_edge(random: &mut Random, schema: &Schema) -> Option<usize> {
-    random.any_of(&(0..schema.edges.len()).collect::<Vec<_>>())
-}
-
-/// The number of a node that is not there.
-fn missing(random: &mut Random, nodes: usize) -> Option<usize> {
-    random.any_of(&(nodes..16).collect::<Vec<_>>())
+    random.any_in(0..schema.edges.len())
 }
 
 /// Writes a field over what stands at a bit position.

@@ -128,7 +128,7 @@ fn lend(
             question.second_path = Some(inputs.path(word, schema(question, Role::S)?)?);
         }
         Role::List => {
-            let over = list_over(question.call);
+            let over = if question.call.is_pushed() { Role::T } else { Role::S };
             question.list = Some(inputs.matching(word, schema(question, over)?)?);
         }
     }
@@ -149,14 +149,6 @@ pub fn schema(question: &Question, role: Role) -> Result<&Schema, Failure> {
             Ok(_) => Failure::Trouble(format!("an accepted schema sheet: {fault}")),
         }),
         None => Err(Failure::Trouble("a schema is missing".to_string())),
-    }
-}
-
-/// The role of the schema over whose tables a list stands.
-fn list_over(call: Call) -> Role {
-    match call {
-        Call::CheckPushed | Call::PushedToRaw => Role::T,
-        _ => Role::S,
     }
 }
 

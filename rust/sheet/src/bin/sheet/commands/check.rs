@@ -30,8 +30,8 @@ pub fn run(arguments: &Arguments, words: &[String]) -> Result<(), Failure> {
         (_, rest) => {
             let (question, _) = ask("check", Call::CheckInstance, rest, arguments)?;
             let schema = schema(&question, Role::S)?;
-            let sheet = question.run.as_ref().map_or(&[][..], |lent| &lent.sheet);
-            let instance = decoded("the instance", Instance::from_sheet(schema, sheet))?;
+            let instance = Instance::from_sheet(schema, question.sheet(Role::Run));
+            let instance = decoded("the instance", instance)?;
             let (rows, counts) = (instance.total_rows(), instance.counts_text(schema));
             output::print(&format!("accepted: rows {rows} ({counts})\n"))
         }

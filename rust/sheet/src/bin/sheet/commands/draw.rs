@@ -18,8 +18,8 @@ pub fn run(arguments: &Arguments, words: &[String]) -> Result<(), Failure> {
         (_, rest) => {
             let (question, _) = ask("draw", Call::CheckMapping, rest, arguments)?;
             let (s, t) = (schema(&question, Role::S)?, schema(&question, Role::T)?);
-            let sheet = question.mapping.as_ref().map_or(&[][..], |lent| &lent.sheet);
-            let mapping = decoded("the mapping", Mapping::from_sheet(s, sheet))?;
+            let mapping = Mapping::from_sheet(s, question.sheet(Role::Mapping));
+            let mapping = decoded("the mapping", mapping)?;
             let titles = [Role::S, Role::T].map(|role| title(&question, role));
             draw_mapping(s, t, &mapping, titles)
         }

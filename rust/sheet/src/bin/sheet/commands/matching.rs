@@ -5,7 +5,7 @@ use crate::arguments::Arguments;
 use crate::ask::{ask, decoded, schema};
 use crate::failure::Failure;
 use crate::output::{self, Target};
-use sheet::{Answer, Call, Instance, Mapping, Matching, Question, Role, Schema};
+use sheet::{Answer, Call, Matching, Role, Schema};
 
 /// Asks one of the two checkers.
 pub fn check(arguments: &Arguments, words: &[String]) -> Result<(), Failure> {
@@ -15,7 +15,7 @@ pub fn check(arguments: &Arguments, words: &[String]) -> Result<(), Failure> {
         _ => (Call::CheckRaw, "from the run to the pulled back book"),
     };
     let (question, _) = ask("match", call, rest, arguments)?;
-    let rows = run_counts(&question)?.iter().sum::<usize>();
+    let rows = counts(question.run_counts())?.iter().sum::<usize>();
     output::print(&format!("accepted: a matching of {rows} rows, {leads}\n"))
 }
 
@@ -30,11 +30,11 @@ pub fn turn(arguments: &Arguments, words: &[String]) -> Result<(), Failure> {
     let Answer::Sheet(sheet) = answer else {
         return Err(Failure::Trouble("the turning gave no sheet".to_string()));
     };
-    let (over, counts) = match call {
-        Call::PushedToRaw => (schema(&question, Role::S)?, run_counts(&question)?),
-        _ => (schema(&question, Role::T)?, pushed_counts(&question)?),
+    let (over, found) = match call {
+        Call::PushedToRaw => (schema(&question, Role::S)?, question.run_counts()),
+        _ => (schema(&question, Role::T)?, question.pushed_counts()),
     };
-    write("turn", arguments, over, &counts, &sheet)
+    write("turn", arguments, over, &counts(found)?, &sheet)
 }
 
 /// Writes a matching: CSV to standard output or a file, or a sheet.
@@ -63,19 +63,7 @@ pub fn write(
     }
 }
 
-/// The row counts of the run.
-fn run_counts(question: &Question) -> Result<Vec<usize>, Failure> {
-    let sheet = question.run.as_ref().map_or(&[][..], |lent| &lent.sheet);
-    let run = decoded("the run", Instance::from_sheet(schema(question, Role::S)?, sheet))?;
-    Ok(run.rows)
-}
-
-/// The row counts of the pushed run: those of the tables over each node joined.
-fn pushed_counts(question: &Question) -> Result<Vec<usize>, Failure> {
-    let counts = run_counts(question)?;
-    let sheet = question.mapping.as_ref().map_or(&[][..], |lent| &lent.sheet);
-    let mapping = Mapping::from_sheet(schema(question, Role::S)?, sheet);
-    let mapping = decoded("the mapping", mapping)?;
-    let joined = |node| mapping.fibre(node).into_iter().map(|c| counts[c]).sum();
-    Ok((0..schema(question, Role::T)?.nodes.len()).map(joined).collect())
+/// The row counts of an instance that the call has accepted or would give.
+fn counts(found: Option<Vec<usize>>) -> Result<Vec<usize>, Failure> {
+    decoded("the run", found.ok_or("its rows cannot be counted"))
 }

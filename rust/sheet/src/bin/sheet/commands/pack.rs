@@ -42,7 +42,7 @@ fn pack(
         true => load("pack", call, words, &mut Inputs::default())?,
         false => ask("pack", call, words, arguments)?.0,
     };
-    Ok(question.lent(role).map_or_else(Vec::new, |lent| lent.sheet.clone()))
+    Ok(question.sheet(role).to_vec())
 }
 
 /// A list by itself says nothing of the rows it stands for; only its schema is
@@ -65,7 +65,7 @@ fn pack_path(arguments: &Arguments, words: &[String]) -> Result<Vec<u8>, Failure
     if !arguments.unchecked {
         answer(&question)?;
     }
-    Ok(question.lent(Role::FirstPath).map_or_else(Vec::new, |lent| lent.sheet.clone()))
+    Ok(question.sheet(Role::FirstPath).to_vec())
 }
 
 fn hexadecimal(sheet: &[u8]) -> String {

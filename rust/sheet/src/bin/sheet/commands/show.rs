@@ -6,12 +6,15 @@ use crate::ask::{answer, ask, decoded, load, load_path, schema};
 use crate::failure::Failure;
 use crate::input::Inputs;
 use crate::output::{self, Target};
-use sheet::{Call, Instance, Mapping, Matching, Question, Role, TextError};
+use sheet::{Call, Instance, Mapping, Matching, Role, TextError};
 
 const SORTS: [&str; 5] = ["schema", "mapping", "instance", "matching", "path"];
 
 /// A sheet to text; the sheet is one that the proved check accepts.
 pub fn run(arguments: &Arguments, words: &[String]) -> Result<(), Failure> {
+    if let Target::PrintSheet | Target::Sheet(_) = Target::of(arguments.output.as_deref()) {
+        return Err(Failure::usage("show", "show writes text; pack writes sheets"));
+    }
     match sort("show", &SORTS, words)? {
         ("schema", rest) => {
             let (question, _) = ask("show", Call::CheckSchema, rest, arguments)?;
@@ -20,13 +23,13 @@ pub fn run(arguments: &Arguments, words: &[String]) -> Result<(), Failure> {
         ("mapping", rest) => {
             let (question, _) = ask("show", Call::CheckMapping, rest, arguments)?;
             let (s, t) = (schema(&question, Role::S)?, schema(&question, Role::T)?);
-            let mapping = Mapping::from_sheet(s, sheet_of(&question, Role::Mapping));
+            let mapping = Mapping::from_sheet(s, question.sheet(Role::Mapping));
             write_text(arguments, &decoded("the mapping", mapping)?.to_text(s, t))
         }
         ("instance", rest) => {
             let (question, _) = ask("show", Call::CheckInstance, rest, arguments)?;
             let over = schema(&question, Role::S)?;
-            migrate::write("show", arguments, over, sheet_of(&question, Role::Run))
+            migrate::write("show", arguments, over, question.sheet(Role::Run))
         }
         ("matching", rest) => show_matching(arguments, rest),
         (_, rest) => show_path(arguments, rest),
@@ -44,7 +47,7 @@ fn show_matching(arguments: &Arguments, words: &[String]) -> Result<(), Failure>
     let question = load("show", Call::CheckInstance, &first, &mut inputs)?;
     answer(&question)?;
     let over = schema(&question, Role::S)?;
-    let from = Instance::from_sheet(over, sheet_of(&question, Role::Run));
+    let from = Instance::from_sheet(over, question.sheet(Role::Run));
     let from = decoded("the instance", from)?;
     let list = inputs.matching(list, over)?;
     let listed = list.lines.as_ref().map(|lines| lines.rows.iter().map(Vec::len).collect());
@@ -60,19 +63,14 @@ fn show_matching(arguments: &Arguments, words: &[String]) -> Result<(), Failure>
 fn show_path(arguments: &Arguments, words: &[String]) -> Result<(), Failure> {
     let question = load_path("show", words)?;
     answer(&question)?;
-    let path = sheet::Path::from_sheet(sheet_of(&question, Role::FirstPath));
+    let path = sheet::Path::from_sheet(question.sheet(Role::FirstPath));
     let text = decoded("the path", path)?.text(schema(&question, Role::S)?);
     write_text(arguments, &(text + "\n"))
 }
 
-fn sheet_of(question: &Question, role: Role) -> &[u8] {
-    question.lent(role).map_or(&[], |lent| &lent.sheet)
-}
-
 fn write_text(arguments: &Arguments, text: &str) -> Result<(), Failure> {
     match Target::of(arguments.output.as_deref()) {
-        Target::Print => output::print(text),
         Target::Text(path) => output::write_file(&path, text.as_bytes(), arguments.force),
-        _ => Err(Failure::usage("show", "show writes text; pack writes sheets")),
+        _ => output::print(text),
     }
 }
