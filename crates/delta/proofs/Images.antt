@@ -13,16 +13,16 @@ use Rattle.meaning.specs.Views.{nodeImage}
 use Rattle.meaning.proofs.Tabulate.{and-both}
 use Rattle.meaning.proofs.Lists.{upto-all}
 use Rattle.schema.specs.declared.Schema.{Schema}
-use Rattle.schema.specs.Decoded.{graphOf, schemaOf}
+use Rattle.schema.specs.Decoded.{graphOf, schemaOf, frontOf}
 use Rattle.schema.proofs.GraphEdges.{edges-count, source-at, target-at}
 use Rattle.mapping.specs.declared.Mapping.{Mapping}
-use Rattle.mapping.specs.Decoded.{firstOf, mappingOf}
+use Rattle.mapping.specs.Decoded.{mappingOf}
 use Rattle.mapping.proofs.Viewing.{node-at, edge-at}
 use Rattle.mapping.proofs.Fitting.{attributeTest, attributes-test, fits-by}
 use Rattle.agreement.proofs.Mappings.{Fits}
 use Rattle.mapping.proofs.Imaging.{fits}
 use Rattle.instance.proofs.SoundSchema.{source-in, target-in}
-use Rattle.delta.specs.Pulled.{Fitting, edgesOver}
+use Rattle.delta.specs.Pulled.{Fitting, edgesOfImage}
 
 -- the image of attribute a is an attribute of T, at the image of a's node
 pub record AttributeFits (s t : Schema) (f : Mapping) (a : ℕ) : Type 0 where
@@ -50,10 +50,10 @@ module _ {s t : Schema} {f : Mapping} (B : Fitting s t f) where
   edge-in : (e : ℕ) → e < s .graph .edges → e < length (schemaOf s .graph .edges)
   edge-in e l = rw (edges-count (s .graph .edges) (s .graph .source) (s .graph .target)) l
 
-  pub edge-joins : (e : ℕ) → e < s .graph .edges → joins (graphOf (t .graph)) (getD (f .node) (getD (s .graph .source) e 0) 0) (edgesOver f e) ≡ true
+  pub edge-joins : (e : ℕ) → e < s .graph .edges → joins (graphOf (t .graph)) (getD (f .node) (getD (s .graph .source) e 0) 0) (edgesOfImage f e) ≡ true
   edge-joins e l = rw (source-is e l, edge-at s f e l) at (image-fits .edge-joins e (edge-in e l))
 
-  pub end-in : (e : ℕ) → e < s .graph .edges → endpoint (target (graphOf (t .graph))) (getD (f .node) (getD (s .graph .source) e 0) 0) (edgesOver f e) < t .graph .nodes
+  pub end-in : (e : ℕ) → e < s .graph .edges → endpoint (target (graphOf (t .graph))) (getD (f .node) (getD (s .graph .source) e 0) 0) (edgesOfImage f e) < t .graph .nodes
   end-in e l =
       let h = rw (source-is e l, edge-at s f e l, target-is e l) at (image-fits .edge-end e (edge-in e l)) in
       rw h (node-in (getD (s .graph .target) e 0) (target-in s (B .source) e l))
@@ -61,7 +61,7 @@ module _ {s t : Schema} {f : Mapping} (B : Fitting s t f) where
   -- ---- of an attribute
   pub attribute-fits : (a : ℕ) → a < s .attributes → AttributeFits s t f a
   attribute-fits a l =
-      let nodes = all (λ d. ltb d (t .graph .nodes)) (firstOf (s .graph .nodes) (f .node)) in
+      let nodes = all (λ d. ltb d (t .graph .nodes)) (frontOf (s .graph .nodes) (f .node)) in
       let edges = all (edgeImageFits (schemaOf s) (schemaOf t) (mappingOf s f)) (upto (s .graph .edges)) in
       let attributes = all (attributeImageFits (schemaOf s) (schemaOf t) (mappingOf s f)) (upto (s .attributes)) in
       let b = getD (f .attribute) a 0 in

@@ -13,7 +13,7 @@ use Rattle.meaning.specs.Schema.{source}
 use Rattle.meaning.specs.Formats as meaning
 use Rattle.meaning.specs.Views.{nodeImage, edgeImage, attributeImage, count, column, follow}
 use Rattle.meaning.specs.Judge.{linksInRange}
-use Rattle.meaning.proofs.Tabulate.{tabulate-same}
+use Rattle.meaning.proofs.Tabulate.{tabulate-same, upto-tabulate}
 use Rattle.agreement.proofs.Joined.{map-upto-getD}
 use Rattle.schema.specs.declared.Schema.{Schema}
 use Rattle.schema.specs.Decoded.{graphOf, schemaOf}
@@ -23,11 +23,11 @@ use Rattle.mapping.specs.Decoded.{mappingOf}
 use Rattle.mapping.proofs.Viewing.{node-at, edge-at, attribute-at, attributes-count}
 use Rattle.instance.specs.declared.Instance.{Instance}
 use Rattle.instance.specs.Decoded.{rowsOf, columnOf, columnsOf, tablesOf, Columns, Limits}
-use Rattle.instance.proofs.Columns.{upto-tabulate, sumOf-part}
+use Rattle.instance.proofs.Columns.{sumOf-part}
 use Rattle.instance.proofs.SoundSchema.{source-in, home-in}
 use Rattle.instance.proofs.Following.{count-at, Led, led}
 use Rattle.delta.specs.Stored.{Counts, ColumnsStored}
-use Rattle.delta.specs.Pulled.{Fitting, EdgeImages, edgesOver, imageRow, AttributeImages, imageValue, deltaOf, Counted, Pulled}
+use Rattle.delta.specs.Pulled.{Fitting, EdgeImages, edgesOfImage, imageRow, AttributeImages, imageValue, deltaOf, Counted, Pulled}
 use Rattle.delta.proofs.Images.{node-in, edge-joins, end-in, attribute-fits}
 
 -- ---- a list given number by number
@@ -56,8 +56,8 @@ module _ {s t : Schema} {f : Mapping} {j : Instance} (B : Fitting s t f) (L : Li
     image-count : (c : ℕ) → c < s .graph .nodes → count J (nodeImage (mappingOf s f) c) ≡ rowsOf (f .node) (j .counts) c
     image-count c l = ap (count J) (node-at s f c l) ∙ count-at t (B .target) j links values (getD (f .node) c 0) (node-in B c l)
 
-  pub counted : {d : Instance} → Counts (s .graph .nodes) (rowsOf (f .node) (j .counts)) (d .counts) → Counted s t f j d
-  counted u = record { says = tabulate-upto (s .graph .nodes) (λ c l. u .each c l ∙ sym (image-count [] [] c l)); long = u .long }
+  pub counted : {d : Instance} → Counts (s .graph .nodes) (rowsOf (f .node) (j .counts)) (d .counts) → d .fault ≡ 0 → Counted s t f j d
+  counted u sound = record { says = tabulate-upto (s .graph .nodes) (λ c l. u .each c l ∙ sym (image-count [] [] c l)); long = u .long; unrefused = sound }
 
   -- ---- the tables, over their counts
   module _ {d : Instance} (D : Counted s t f j d) where
@@ -81,11 +81,11 @@ module _ {s t : Schema} {f : Mapping} {j : Instance} (B : Fitting s t f) (L : Li
     -- ---- links
     module _ (links values : List ℕ) (long : 512 * t .graph .edges ≤ length links) (in-range : linksInRange (schemaOf t) (J links values) ≡ true) where
       abbrev LedFrom : ℕ → ℕ → Type 0
-      LedFrom e x = Led t (B .target) j links values L long in-range (getD (f .node) (getD (s .graph .source) e 0) 0) (edgesOver f e) x
+      LedFrom e x = Led t (B .target) j links values L long in-range (getD (f .node) (getD (s .graph .source) e 0) 0) (edgesOfImage f e) x
 
       led-from : (e : ℕ) → e < s .graph .edges → (x : ℕ) → x < rowsOf (s .graph .source) (d .counts) e → LedFrom e x
       led-from e l x h =
-          led t (B .target) j links values L long in-range (getD (f .node) (getD (s .graph .source) e 0) 0) (edgesOver f e) x (edge-joins B e l)
+          led t (B .target) j links values L long in-range (getD (f .node) (getD (s .graph .source) e 0) 0) (edgesOfImage f e) x (edge-joins B e l)
           (rw (rows-are (getD (s .graph .source) e 0) (source-in s (B .source) e l)) at h)
 
       pub edge-images : length (s .graph .source) ≡ 32 → EdgeImages s f (d .counts) links
@@ -145,4 +145,4 @@ module _ {s t : Schema} {f : Mapping} {j : Instance} (B : Fitting s t f) (L : Li
 module _ {s t : Schema} {f : Mapping} {j d : Instance} {links values followed copied : List ℕ} where
   pub pulled : Counted s t f j d → columnsOf (s .graph .edges) (rowsOf (s .graph .source) (d .counts)) followed ≡ deltaOf s t f j links values .links
       → columnsOf (s .attributes) (rowsOf (s .node) (d .counts)) copied ≡ deltaOf s t f j links values .values → Pulled s t f j links values d followed copied
-  pulled D a b = record { says = rw (D .says, a, b); long = D .long }
+  pulled D a b = record { says = rw (D .says, a, b); long = D .long; unrefused = D .unrefused }

@@ -9,12 +9,12 @@ use Rattle.meaning.specs.Formats as meaning
 use Rattle.meaning.specs.Judge.{imagesFit}
 use Rattle.meaning.specs.Delta.{delta}
 use Rattle.schema.specs.declared.Schema.{Schema}
-use Rattle.schema.specs.Decoded.{schemaOf}
+use Rattle.schema.specs.Decoded.{schemaOf, frontOf}
 use Rattle.schema.specs.Judged.{Sound}
 use Rattle.mapping.specs.declared.Mapping.{Mapping}
 use Rattle.mapping.specs.Decoded.{imageOf, noImage, mappingOf, Short}
 use Rattle.instance.specs.declared.Instance.{Instance}
-use Rattle.instance.specs.Decoded.{firstOf, rowsOf, tablesOf, Columns}
+use Rattle.instance.specs.Decoded.{rowsOf, tablesOf, Columns}
 use Rattle.instance.specs.Followed.{linkIn}
 use Rattle.delta.specs.Stored.{Leads}
 
@@ -28,19 +28,19 @@ pub record Fitting (s t : Schema) (f : Mapping) : Type 0 where
 -- ---- links and values
 
 -- the edges of the image of edge e
-abbrev pub edgesOver : Mapping → ℕ → List ℕ
-edgesOver f e = imageOf (getD (f .edge) e noImage)
+abbrev pub edgesOfImage : Mapping → ℕ → List ℕ
+edgesOfImage f e = imageOf (getD (f .edge) e noImage)
 
 -- the row to which the image of edge e leads from row x
 abbrev pub imageRow : Mapping → List ℕ → ℕ → ℕ → ℕ
-imageRow f links e = follow (linkIn links) (edgesOver f e)
+imageRow f links e = follow (linkIn links) (edgesOfImage f e)
 
 -- what following the image of each edge relies on
 pub record EdgeImages (s : Schema) (f : Mapping) (counts links : List ℕ) : Type 0 where
   pub few : s .graph .edges ≤ 32
   pub columns : Columns (s .graph .edges) (s .graph .source) counts
   pub short : Short (s .graph .edges) (f .edge)
-  pub leads : (e : ℕ) → e < s .graph .edges → Leads links (edgesOver f e) (rowsOf (s .graph .source) counts e)
+  pub leads : (e : ℕ) → e < s .graph .edges → Leads links (edgesOfImage f e) (rowsOf (s .graph .source) counts e)
 
 -- row x of the column of the image of attribute a
 abbrev pub imageValue : List ℕ → List ℕ → ℕ → ℕ → ℕ
@@ -61,10 +61,12 @@ deltaOf s t f j links values = delta (schemaOf s) (mappingOf s f) (tablesOf t j 
 
 -- d has the counts of Delta's tables
 pub record Counted (s t : Schema) (f : Mapping) (j d : Instance) : Type 0 where
-  pub says : firstOf (s .graph .nodes) (d .counts) ≡ deltaOf s t f j [] [] .counts
+  pub says : frontOf (s .graph .nodes) (d .counts) ≡ deltaOf s t f j [] [] .counts
   pub long : length (d .counts) ≡ 16
+  pub unrefused : d .fault ≡ 0
 
 -- Delta's tables stand in working arrays
 pub record Pulled (s t : Schema) (f : Mapping) (j : Instance) (links values : List ℕ) (d : Instance) (followed copied : List ℕ) : Type 0 where
   pub says : tablesOf s d followed copied ≡ deltaOf s t f j links values
   pub long : length (d .counts) ≡ 16
+  pub unrefused : d .fault ≡ 0

@@ -1,6 +1,7 @@
-// Columns stored in a working array, number by number.
+// Columns stored in a working array, number by number, and the counts of tables as an array.
 use instance::follow::follow;
 use mapping::Image;
+use schema::Schema;
 ghost use Prim.Native.Nat.{_+_, _≤_};
 ghost use lib.ListN.{length, getD};
 ghost use Rattle.theory.specs.Instance as theory;
@@ -10,11 +11,11 @@ ghost use Rattle.instance.specs.Followed.{linkIn};
 ghost use Rattle.delta.specs.Stored.{Counts, Leads, Stored};
 
 // For each of n nodes, the rows of the table at its image.
-pub fn count_column(n: usize, node: &[u8], counts: &[u32]) -> [u32; 16]
+pub fn count_column(n: usize, node: &[u8], counts: &[u32]) -> [u32; Schema::NODES]
     requires { ⌜ (n ≤ 16) × Columns n (now node) (now counts) ⌝ }
     ensures { λ r. ⌜ Counts n (rowsOf (now (node .entry)) (now (counts .entry))) r ⌝ }
 {
-    let mut out = [0u32; 16];
+    let mut out = [0u32; Schema::NODES];
     let mut c = 0;
     while c < n {
         out[c] = counts[node[c] as usize];

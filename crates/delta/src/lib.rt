@@ -6,17 +6,16 @@ use columns::count_column;
 use columns::follow_column;
 use instance::Instance;
 use instance::decode::rows_of;
-use instance::decode::wide;
 use mapping::Mapping;
 use schema::Schema;
 ghost use mathlib.Core.Path.{_≡_};
 ghost use mathlib.Core.Bool.{true};
 ghost use mathlib.Core.List.{[]};
-ghost use Prim.Native.Nat.{ℕ, _*_, _≤_, _<_};
-ghost use lib.ListN.{length, getD};
+ghost use Prim.Native.Nat.{_*_, _≤_};
+ghost use lib.ListN.{length};
 ghost use Rattle.meaning.specs.Judge.{linksInRange};
 ghost use Rattle.schema.specs.Decoded.{schemaOf};
-ghost use Rattle.instance.specs.Decoded.{rowsOf, tablesOf, Columns, Limits, RoomFor};
+ghost use Rattle.instance.specs.Decoded.{rowsOf, tablesOf, Limits, RoomFor};
 ghost use Rattle.delta.specs.Stored.{ColumnsStored};
 ghost use Rattle.delta.specs.Pulled.{Fitting, EdgeImages, imageRow, AttributeImages, imageValue, Counted, Pulled};
 
@@ -45,7 +44,7 @@ fn delta_links(s: Schema, f: Mapping, counts: &[u32], links: &[u32], out: &mut [
     while e < n {
         let rows = rows_of(&source, counts, e);
         let image = f.edge[e];
-        follow_column(links, image, rows, &mut *out, 512 * e);
+        follow_column(links, image, rows, &mut *out, Instance::ROWS * e);
         e += 1;
     }
 }
@@ -67,10 +66,10 @@ fn delta_values(
         let rows = rows_of(node, counts, a);
         copy_column(
             values,
-            512 * (attribute[a] as usize),
+            Instance::ROWS * (attribute[a] as usize),
             rows,
             &mut *out,
-            512 * a,
+            Instance::ROWS * a,
         );
         a += 1;
     }

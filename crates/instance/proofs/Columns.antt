@@ -1,4 +1,4 @@
--- Laws of columns: stored in an array, and read one after the other.
+-- Laws of columns: stored in an array, and read one after the other; and sums of rows.
 use Prim.Native.Nat.{ℕ, zero, suc, _+_, _*_, _≤_, _<_}
 use mathlib.Core.Path.{_≡_, refl, sym, ap, ap₂, _∙_}
 use mathlib.Core.List.{List, [], _∷_, _++_}
@@ -14,16 +14,6 @@ use Rattle.meaning.specs.Lists.{range, upto, sumOf}
 use Rattle.meaning.specs.Sheet.{Reader, after, inTurn}
 use Rattle.meaning.proofs.Tabulate.{tabulate-more, tabulate-same, tabulate-store}
 use Rattle.instance.specs.Decoded.{columnsOf, Stored}
-
--- ---- lists of consecutive numbers
-range-tabulate : (start n : ℕ) → range start n ≡ tabulate n (λ i. start + i)
-range-tabulate start zero = refl
-range-tabulate start (suc n) =
-    ap₂ (λ (x : ℕ) (l : List ℕ). x ∷ l) (sym (add-zero start))
-    (range-tabulate (suc start) n ∙ tabulate-same n (λ i l. omega arith))
-
-pub upto-tabulate : (n : ℕ) → upto n ≡ tabulate n (λ i. i)
-upto-tabulate n = range-tabulate 0 n ∙ tabulate-same n (λ i l. omega arith)
 
 -- ---- sums
 sumOf-append : (a b : List ℕ) → sumOf (a ++ b) ≡ sumOf a + sumOf b

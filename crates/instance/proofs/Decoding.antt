@@ -17,11 +17,11 @@ use Rattle.meaning.specs.Formats.{Instance, readLinks, readValues, readTables, 
 use Rattle.meaning.proofs.Reading.{fixed-field, fixed-times}
 use Rattle.meaning.proofs.Tabulate.{tabulate-same}
 use Rattle.schema.specs.declared.Schema.{Schema}
-use Rattle.schema.specs.Decoded.{schemaOf}
+use Rattle.schema.specs.Decoded.{schemaOf, frontOf}
 use Rattle.schema.specs.Judged.{Sound}
 use Rattle.instance.specs.declared.Instance as declared
 use Rattle.instance.specs.declared.decode.ColumnsRead.{ColumnsRead}
-use Rattle.instance.specs.Decoded.{firstOf, countsIn, rowsOf, tablesOf, readColumns, emptyInstance, Stored, Says, Columns, ColumnsTaken}
+use Rattle.instance.specs.Decoded.{countsIn, rowsOf, tablesOf, readColumns, emptyInstance, Stored, Says, Columns, ColumnsTaken}
 use Rattle.instance.specs.Matched.{readPartners}
 use Rattle.instance.proofs.SoundSchema.{source-in, target-in, home-in}
 use Rattle.instance.proofs.Columns.{inTurn-same, sumOf-none, sumOf-part, none-stands}
@@ -48,7 +48,7 @@ module _ (S : meaning.Schema) (s : List ℕ) where
 
 -- ---- of a sound schema
 module _ (t : Schema) (A : Sound t) where
-  module _ (counts : List ℕ) (few : sumOf (firstOf (t .graph .nodes) counts) ≤ 512) (long : length counts ≡ 16) where
+  module _ (counts : List ℕ) (few : sumOf (frontOf (t .graph .nodes) counts) ≤ 512) (long : length counts ≡ 16) where
     rows-few : (home : List ℕ) (n : ℕ) {m : ℕ} → ((k : ℕ) → k < n → getD home k 0 < t .graph .nodes) → n ≤ m → length home ≡ m → Columns n home counts
     rows-few home n h l e = record {
       homes = omega arith;
@@ -68,17 +68,17 @@ module _ (t : Schema) (A : Sound t) where
   -- ---- what follows the leading counts, read into columns
   module _ (counts s : List ℕ) (p : ℕ) where
     abbrev tables : Read Instance
-    tables = readTables (schemaOf t) (firstOf (t .graph .nodes) counts) s p
+    tables = readTables (schemaOf t) (frontOf (t .graph .nodes) counts) s p
 
-    rows-at : (home : List ℕ) (k : ℕ) → getD home k 0 < t .graph .nodes → getD (firstOf (t .graph .nodes) counts) (getD home k 0) 0 ≡ rowsOf home counts k
+    rows-at : (home : List ℕ) (k : ℕ) → getD home k 0 < t .graph .nodes → getD (frontOf (t .graph .nodes) counts) (getD home k 0) 0 ≡ rowsOf home counts k
     rows-at home k l = tabulate-getD (t .graph .nodes) (λ c. getD counts c 0) 0 (getD home k 0) l
 
-    links-columns : readLinks (schemaOf t) (firstOf (t .graph .nodes) counts) s p ≡ readColumns 9 (t .graph .edges) (rowsOf (t .graph .source) counts) s p
+    links-columns : readLinks (schemaOf t) (frontOf (t .graph .nodes) counts) s p ≡ readColumns 9 (t .graph .edges) (rowsOf (t .graph .source) counts) s p
     links-columns =
         ap (λ (m : Reader (List (List ℕ))). m s p)
         (inTurn-same {A = meaning.Edge} _ _ (t .graph .edges) _ _ (λ e l. ap (λ (n : ℕ). times n (field 9)) (rows-at (t .graph .source) e (source-in t A e l))))
 
-    values-columns : (q : ℕ) → readValues (schemaOf t) (firstOf (t .graph .nodes) counts) s q ≡ readColumns 32 (t .attributes) (rowsOf (t .node) counts) s q
+    values-columns : (q : ℕ) → readValues (schemaOf t) (frontOf (t .graph .nodes) counts) s q ≡ readColumns 32 (t .attributes) (rowsOf (t .node) counts) s q
     values-columns q =
         ap (λ (m : Reader (List (List ℕ))). m s q)
         (inTurn-same {A = meaning.Attribute} _ _ (t .attributes) _ _ (λ a l. ap (λ (n : ℕ). times n (field 32)) (rows-at (t .node) a (home-in t A a l))))
@@ -105,7 +105,7 @@ module _ (s : List ℕ) (n : ℕ) where
   pub partners-tail : 9 * n ≤ 8 * length s → bits.tailOk s (9 * n) ≡ false → readPartners n s 0 ≡ fails 2
   partners-tail h e = rw (fixed-times n (fixed-field 9) .here s 0 (omega arith), zero-add (9 * n), e)
 
-  pub partners-read : {l r : List ℕ} → Stored s 0 9 n 0 l r → 9 * n ≤ 8 * length s → bits.tailOk s (9 * n) ≡ true → readPartners n s 0 ≡ reads (firstOf n r) (9 * n)
+  pub partners-read : {l r : List ℕ} → Stored s 0 9 n 0 l r → 9 * n ≤ 8 * length s → bits.tailOk s (9 * n) ≡ true → readPartners n s 0 ≡ reads (frontOf n r) (9 * n)
   partners-read {r = r} u h e =
-      let f : firstOf n r ≡ tabulate n (λ i. bits.field s (0 + 9 * i) 9) = tabulate-same n (λ i l. ap (λ (k : ℕ). getD r k 0) (sym (zero-add i)) ∙ u .each i l) in
+      let f : frontOf n r ≡ tabulate n (λ i. bits.field s (0 + 9 * i) 9) = tabulate-same n (λ i l. ap (λ (k : ℕ). getD r k 0) (sym (zero-add i)) ∙ u .each i l) in
       rw (fixed-times n (fixed-field 9) .here s 0 (omega arith), zero-add (9 * n), e, f)

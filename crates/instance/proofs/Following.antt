@@ -1,4 +1,4 @@
--- The tests of an instance over its working arrays, and links followed there.
+-- Tests 9, 10 and 11 over the working arrays of an instance, and links followed there.
 use Prim.Native.Nat.{ℕ, zero, suc, _+_, _*_, _≤_, _<_}
 use mathlib.Core.Path.{_≡_, refl, sym, ap, ap₂, _∙_}
 use mathlib.Core.Bool.{Bool, true, _&&_}
@@ -17,7 +17,7 @@ use Rattle.meaning.specs.Schema.{Attribute, Equation, attributeAt, source, targ
 use Rattle.meaning.specs.Formats.{Instance, inRange}
 use Rattle.meaning.specs.Views.{count, column, follow, rows}
 use Rattle.meaning.specs.Judge.{linksInRange, valuesInRange}
-use Rattle.meaning.proofs.Tabulate.{and-both, all-at}
+use Rattle.meaning.proofs.Tabulate.{and-both, all-at, upto-tabulate, all-same}
 use Rattle.schema.specs.declared.Schema.{Schema}
 use Rattle.schema.specs.Decoded.{graphOf, pathOf, noPath, equationOf, schemaOf}
 use Rattle.schema.specs.Judged.{Sound}
@@ -26,15 +26,8 @@ use Rattle.instance.specs.declared.Instance as declared
 use Rattle.instance.specs.Decoded.{rowsOf, columnOf, tablesOf, Limits}
 use Rattle.instance.specs.Tested.{linkTest, valueTest}
 use Rattle.instance.specs.Followed.{linkIn, Stays, Followable, agreeOn}
-use Rattle.instance.proofs.Columns.{upto-tabulate, sumOf-part}
+use Rattle.instance.proofs.Columns.{sumOf-part}
 use Rattle.instance.proofs.SoundSchema.{source-in, target-in, sides-at}
-
-module _ {A B : Type 0} where
-  -- a test of each of n things goes by what it says of each
-  pub all-same : (f : A → Bool) (g : B → Bool) (n : ℕ) (x : ℕ → A) (y : ℕ → B) → ((i : ℕ) → i < n → f (x i) ≡ g (y i)) → all f (tabulate n x) ≡ all g (tabulate n y)
-  all-same f g zero x y h = refl
-  all-same f g (suc n) x y h =
-      ap₂ (λ (a b : Bool). a && b) (h 0 (omega arith)) (all-same f g n (λ i. x (suc i)) (λ i. y (suc i)) (λ i l. h (suc i) (omega arith)))
 
 -- the two sides of an equation lead each row to the same row
 abbrev pub equationTest : Instance → Equation → Bool

@@ -15,9 +15,11 @@ use Rattle.theory.specs.Numbering.{tabulate}
 use Rattle.meaning.specs.Lists.{concatMap}
 use Rattle.meaning.specs.Formats.{fieldsOf, instanceSheet, matchingSheet}
 use Rattle.meaning.proofs.Tabulate.{tabulate-more, tabulate-same}
+use Rattle.meaning.proofs.PathLevels.{concatMap-append}
 use Rattle.schema.specs.declared.Schema.{Schema}
+use Rattle.schema.specs.Decoded.{frontOf}
 use Rattle.instance.specs.declared.Instance.{Instance}
-use Rattle.instance.specs.Decoded.{firstOf, rowsOf, columnOf, columnsOf, tablesOf}
+use Rattle.instance.specs.Decoded.{rowsOf, columnOf, columnsOf, tablesOf}
 use Rattle.instance.specs.Written.{Written, rowsIn, columnFields, sheetBits, sheetBytes}
 use Rattle.instance.proofs.Columns.{sumOf-more}
 
@@ -44,16 +46,12 @@ module _ (width : ℕ) where
       ∙ ap (λ (w : ℕ). put (putAll s at (fieldsOf width (tabulate n f))) (at + w) width (f n)) (fields-width n f)
 
   -- ---- columns
-  concat-append : (a b : List (List ℕ)) → concatMap (fieldsOf width) (a ++ b) ≡ concatMap (fieldsOf width) a ++ concatMap (fieldsOf width) b
-  concat-append [] b = refl
-  concat-append (x ∷ a) b = ap (λ (r : List (ℕ × ℕ)). fieldsOf width x ++ r) (concat-append a b) ∙ sym (append-assoc (fieldsOf width x) (concatMap (fieldsOf width) a) (concatMap (fieldsOf width) b))
-
   module _ (rows : ℕ → ℕ) (l : List ℕ) where
     columns-step : (n : ℕ) → columnFields width (n + 1) rows l ≡ columnFields width n rows l ++ fieldsOf width (columnOf l (512 * n) (rows n))
     columns-step n =
         ap (λ (m : ℕ). columnFields width m rows l) (add-one n)
         ∙ ap (concatMap (fieldsOf width)) (tabulate-more n (λ k. columnOf l (512 * k) (rows k)))
-        ∙ concat-append (columnsOf n rows l) (columnOf l (512 * n) (rows n) ∷ [])
+        ∙ concatMap-append (fieldsOf width) (columnsOf n rows l) (columnOf l (512 * n) (rows n) ∷ [])
         ∙ ap (λ (r : List (ℕ × ℕ)). columnFields width n rows l ++ r) (append-nil (fieldsOf width (columnOf l (512 * n) (rows n))))
 
     rows-more : (n : ℕ) → width * rowsIn (n + 1) rows ≡ width * rowsIn n rows + width * rows n
@@ -132,14 +130,14 @@ module _ (t : Schema) (i : Instance) (links values : List ℕ) where
 
 -- ---- a matching's sheet
 module _ (l : List ℕ) (n : ℕ) where
-  partners-same : firstOf n l ≡ columnOf l 0 n
+  partners-same : frontOf n l ≡ columnOf l 0 n
   partners-same = tabulate-same n (λ c h. ap (λ (k : ℕ). getD l k 0) (sym (zero-add c)))
 
   partners-width : totalWidth (fieldsOf 9 (columnOf l 0 n)) ≡ 9 * n
   partners-width = fields-width 9 n (λ r. getD l (0 + r) 0)
 
-  pub matching-length : length (matchingSheet (firstOf n l)) ≡ bytesFor (9 * n)
+  pub matching-length : length (matchingSheet (frontOf n l)) ≡ bytesFor (9 * n)
   matching-length = ap (λ (x : List ℕ). length (matchingSheet x)) partners-same ∙ length-pack (fieldsOf 9 (columnOf l 0 n)) ∙ ap bytesFor partners-width
 
-  pub matching-written : (tray : List ℕ) {m : ℕ} {a b : List ℕ} → m ≡ bytesFor (9 * n) → a ≡ replicate m 0 ++ drop m tray → b ≡ putAll a 0 (fieldsOf 9 (columnOf l 0 n)) → Written (matchingSheet (firstOf n l)) tray m b
+  pub matching-written : (tray : List ℕ) {m : ℕ} {a b : List ℕ} → m ≡ bytesFor (9 * n) → a ≡ replicate m 0 ++ drop m tray → b ≡ putAll a 0 (fieldsOf 9 (columnOf l 0 n)) → Written (matchingSheet (frontOf n l)) tray m b
   matching-written tray {m} {a} {b} e ea eb = rw partners-same (packed (fieldsOf 9 (columnOf l 0 n)) tray b (e ∙ ap bytesFor (sym partners-width)) (eb ∙ rw ea))

@@ -11,15 +11,11 @@ use Rattle.meaning.specs.Lists.{sumOf}
 use Rattle.meaning.specs.Sheet.{Reader, Judged, faulty, sound, inTurn, times, field}
 use Rattle.meaning.specs.Formats as meaning
 use Rattle.schema.specs.declared.Schema.{Schema}
-use Rattle.schema.specs.Decoded.{readOf}
+use Rattle.schema.specs.Decoded.{readOf, frontOf}
 use Rattle.instance.specs.declared.Instance.{Instance}
 use Rattle.instance.specs.declared.decode.ColumnsRead.{ColumnsRead}
 
 -- ---- what structs and arrays mean
-
--- the first n numbers of an array
-abbrev pub firstOf : ℕ → List ℕ → List ℕ
-firstOf n l = tabulate n (λ i. getD l i 0)
 
 -- n numbers of an array from base on
 abbrev pub columnOf : List ℕ → ℕ → ℕ → List ℕ
@@ -35,7 +31,7 @@ columnsOf n rows l = tabulate n (λ k. columnOf l (512 * k) (rows k))
 
 abbrev pub tablesOf : Schema → Instance → List ℕ → List ℕ → meaning.Instance
 tablesOf t i links values = record {
-  counts = firstOf (t .graph .nodes) (i .counts);
+  counts = frontOf (t .graph .nodes) (i .counts);
   links = columnsOf (t .graph .edges) (rowsOf (t .graph .source) (i .counts)) links;
   values = columnsOf (t .attributes) (rowsOf (t .node) (i .counts)) values;
 }
@@ -99,7 +95,7 @@ pub record ColumnsTaken (s : List ℕ) (at width n : ℕ) (home counts : List �
 
 -- at most 512 rows in all
 pub record Limits (t : Schema) (i : Instance) : Type 0 where
-  pub rows : sumOf (firstOf (t .graph .nodes) (i .counts)) ≤ 512
+  pub rows : sumOf (frontOf (t .graph .nodes) (i .counts)) ≤ 512
   pub long : length (i .counts) ≡ 16
 
 pub record Says (t : Schema) (i : Instance) (links values : List ℕ) (J : Judged meaning.Instance) : Type 0 where

@@ -4,7 +4,7 @@ use mathlib.Core.Bool.{cond}
 use mathlib.Core.List.{List}
 use lib.Dec.{eqb}
 use Rattle.meaning.specs.Sheet.{Reader, _>>=_, give, times, field, finish, Judged, faulty, sound}
-use Rattle.instance.specs.Decoded.{firstOf}
+use Rattle.schema.specs.Decoded.{frontOf}
 
 -- n partners: what `readMatching` reads from an instance with n rows
 abbrev pub readPartners : ℕ → Reader (List ℕ)
@@ -15,4 +15,4 @@ readPartners n = do
 
 -- the number with which the sheet is sent back, or the partners
 abbrev pub judgedPartners : ℕ → ℕ → List ℕ → Judged (List ℕ)
-judgedPartners fault n l = cond (eqb fault 0) (sound (firstOf n l)) (faulty fault)
+judgedPartners fault n l = cond (eqb fault 0) (sound (frontOf n l)) (faulty fault)

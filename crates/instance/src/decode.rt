@@ -11,9 +11,9 @@ ghost use Rattle.bits.specs.Field.{field, Within};
 ghost use Rattle.meaning.specs.Lists.{sumOf};
 ghost use Rattle.meaning.specs.Sheet.{onSheet, judged};
 ghost use Rattle.meaning.specs.Formats.{readTables, readInstance};
-ghost use Rattle.schema.specs.Decoded.{Near, schemaOf};
+ghost use Rattle.schema.specs.Decoded.{Near, schemaOf, frontOf};
 ghost use Rattle.schema.specs.Judged.{Sound};
-ghost use Rattle.instance.specs.Decoded.{firstOf, countsIn, rowsOf, Fields, Stored, Columns, ColumnsTaken, RoomFor, Says};
+ghost use Rattle.instance.specs.Decoded.{countsIn, rowsOf, Fields, Stored, Columns, ColumnsTaken, RoomFor, Says};
 
 // A number of 32 bits as an index.
 pub fn wide(x: u32) -> usize
@@ -51,11 +51,11 @@ pub fn read_column(s: &[u8], at: usize, width: usize, n: usize, out: &mut [u32],
 }
 
 // The leading counts of n tables.
-fn read_counts(s: &[u8], n: usize) -> [u32; 16]
+fn read_counts(s: &[u8], n: usize) -> [u32; Schema::NODES]
     requires { ⌜ (n ≤ 16) × (10 * n ≤ 8 * length (now s)) ⌝ }
-    ensures { λ r. ⌜ firstOf n r ≡ countsIn n (now (s .entry)) ⌝ }
+    ensures { λ r. ⌜ frontOf n r ≡ countsIn n (now (s .entry)) ⌝ }
 {
-    let mut counts = [0u32; 16];
+    let mut counts = [0u32; Schema::NODES];
     read_column(s, 0, 10, n, &mut counts, 0);
     counts
 }
@@ -63,7 +63,7 @@ fn read_counts(s: &[u8], n: usize) -> [u32; 16]
 // The rows of the first n tables together.
 pub fn total(counts: &[u32], n: usize) -> usize
     requires { ⌜ (n ≤ 16) × (n ≤ length (now counts)) ⌝ }
-    ensures { λ r. ⌜ r ≡ sumOf (firstOf n (now (counts .entry))) ⌝ }
+    ensures { λ r. ⌜ r ≡ sumOf (frontOf n (now (counts .entry))) ⌝ }
 {
     let mut sum: usize = 0;
     let mut i = 0;
@@ -111,7 +111,7 @@ fn read_columns(
                 next: at,
             };
         }
-        read_column(s, p, width, rows, &mut *out, 512 * k);
+        read_column(s, p, width, rows, &mut *out, Instance::ROWS * k);
         p += width * rows;
         k += 1;
     }
@@ -125,12 +125,12 @@ fn read_columns(
 fn decode_tables(
     schema: Schema,
     s: &[u8],
-    counts: [u32; 16],
+    counts: [u32; Schema::NODES],
     links: &mut [u32],
     values: &mut [u32],
 ) -> Instance
-    requires { ⌜ Sound schema × RoomFor schema (now links) (now values) × (10 * schema .graph .nodes ≤ 8 * length (now s)) × (sumOf (firstOf (schema .graph .nodes) counts) ≤ 512) ⌝ }
-    ensures { λ r. ⌜ Says schema r (now (links .exit)) (now (values .exit)) (judged (readTables (schemaOf schema) (firstOf (schema .graph .nodes) counts) (now (s .entry)) (10 * schema .graph .nodes))) ⌝ }
+    requires { ⌜ Sound schema × RoomFor schema (now links) (now values) × (10 * schema .graph .nodes ≤ 8 * length (now s)) × (sumOf (frontOf (schema .graph .nodes) counts) ≤ 512) ⌝ }
+    ensures { λ r. ⌜ Says schema r (now (links .exit)) (now (values .exit)) (judged (readTables (schemaOf schema) (frontOf (schema .graph .nodes) counts) (now (s .entry)) (10 * schema .graph .nodes))) ⌝ }
 {
     let graph = schema.graph;
     let source = graph.source;

@@ -44,7 +44,7 @@ fn write_columns(
     let mut p = at;
     while k < n {
         let rows = rows_of(home, counts, k);
-        write_column(&mut *tray, p, width, l, 512 * k, rows);
+        write_column(&mut *tray, p, width, l, Instance::ROWS * k, rows);
         p += width * rows;
         k += 1;
     }

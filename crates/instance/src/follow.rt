@@ -10,20 +10,20 @@ ghost use Prim.Native.Nat.{_*_, _≤_};
 ghost use lib.ListN.{length};
 ghost use Rattle.theory.specs.Instance as theory;
 ghost use Rattle.meaning.specs.Judge.{linksInRange, obeysEquations};
-ghost use Rattle.schema.specs.Decoded.{pathOf, schemaOf};
+ghost use Rattle.schema.specs.Decoded.{pathOf, schemaOf, frontOf};
 ghost use Rattle.schema.specs.Judged.{Sound};
-ghost use Rattle.instance.specs.Decoded.{firstOf, tablesOf, Limits};
+ghost use Rattle.instance.specs.Decoded.{tablesOf, Limits};
 ghost use Rattle.instance.specs.Followed.{linkIn, Stays, Followable, agreeOn};
 
 // The row to which the first n edges lead from a row.
 pub fn follow(links: &[u32], edges: &[u8], n: usize, row: usize) -> usize
-    requires { ⌜ (n ≤ length (now edges)) × Stays (now links) (firstOf n (now edges)) row ⌝ }
-    ensures { λ r. ⌜ r ≡ theory.follow (linkIn (now (links .entry))) (firstOf n (now (edges .entry))) row ⌝ }
+    requires { ⌜ (n ≤ length (now edges)) × Stays (now links) (frontOf n (now edges)) row ⌝ }
+    ensures { λ r. ⌜ r ≡ theory.follow (linkIn (now (links .entry))) (frontOf n (now (edges .entry))) row ⌝ }
 {
     let mut x = row;
     let mut i = 0;
     while i < n {
-        x = wide(links[512 * (edges[i] as usize) + x]);
+        x = wide(links[Instance::ROWS * (edges[i] as usize) + x]);
         i += 1;
     }
     x
@@ -31,8 +31,8 @@ pub fn follow(links: &[u32], edges: &[u8], n: usize, row: usize) -> usize
 
 // Whether the first m edges of left and n of right lead each of the first rows to the same row.
 fn agree(links: &[u32], left: &[u8], m: usize, right: &[u8], n: usize, rows: usize) -> bool
-    requires { ⌜ (m ≤ length (now left)) × (n ≤ length (now right)) × Followable (now links) (firstOf m (now left)) rows × Followable (now links) (firstOf n (now right)) rows ⌝ }
-    ensures { λ r. ⌜ r ≡ agreeOn (now (links .entry)) (firstOf m (now (left .entry))) (firstOf n (now (right .entry))) rows ⌝ }
+    requires { ⌜ (m ≤ length (now left)) × (n ≤ length (now right)) × Followable (now links) (frontOf m (now left)) rows × Followable (now links) (frontOf n (now right)) rows ⌝ }
+    ensures { λ r. ⌜ r ≡ agreeOn (now (links .entry)) (frontOf m (now (left .entry))) (frontOf n (now (right .entry))) rows ⌝ }
 {
     let mut x = 0;
     while x < rows {
@@ -44,7 +44,7 @@ fn agree(links: &[u32], left: &[u8], m: usize, right: &[u8], n: usize, rows: usi
     true
 }
 
-// The same of two paths.
+// Whether two paths lead each of the first rows to the same row.
 fn paths_agree(links: &[u32], a: Path, b: Path, rows: usize) -> bool
     requires { ⌜ (a .length ≤ 15) × (b .length ≤ 15) × Followable (now links) (pathOf a .edges) rows × Followable (now links) (pathOf b .edges) rows ⌝ }
     ensures { λ r. ⌜ r ≡ agreeOn (now (links .entry)) (pathOf a .edges) (pathOf b .edges) rows ⌝ }

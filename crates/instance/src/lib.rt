@@ -19,28 +19,31 @@ ghost use Rattle.instance.specs.Tested.{testInstance, Tested};
 // the value of attribute a at 512 * a + r. Fault is 0, or the number with which the sheet is sent back.
 pub struct Instance {
     pub fault: u8,
-    pub counts: [u32; 16],
+    pub counts: [u32; Schema::NODES],
 }
 
 impl Instance {
+    // Rows of all tables together.
     pub const ROWS: usize = 512;
 
-    pub const LINKS: usize = 16384;
+    // A column of links for each edge that a schema can have.
+    pub const LINKS: usize = Schema::EDGES * Instance::ROWS;
 
-    pub const VALUES: usize = 8192;
+    // A column of values for each attribute that a schema can have.
+    pub const VALUES: usize = Schema::ATTRIBUTES * Instance::ROWS;
 
     // A schema with at most so many edges and at most so many attributes has few columns: shorter working arrays do for its instances.
     pub const FEW_COLUMNS: usize = 4;
 
-    pub const FEW_LINKS: usize = 2048;
+    pub const FEW_LINKS: usize = Instance::FEW_COLUMNS * Instance::ROWS;
 
-    pub const FEW_VALUES: usize = 2048;
+    pub const FEW_VALUES: usize = Instance::FEW_COLUMNS * Instance::ROWS;
 
     // A sheet sent back with a number.
     pub fn faulty(number: u8) -> Instance
         ensures { λ r. ⌜ r ≡ emptyInstance number ⌝ }
     {
-        let counts = [0u32; 16];
+        let counts = [0u32; Schema::NODES];
         Instance {
             fault: number,
             counts: counts,

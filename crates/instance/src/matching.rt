@@ -9,7 +9,7 @@ ghost use lib.ListN.{length};
 ghost use Rattle.bits.specs.Field.{bytesFor};
 ghost use Rattle.meaning.specs.Sheet.{onSheet};
 ghost use Rattle.meaning.specs.Formats.{matchingSheet};
-ghost use Rattle.instance.specs.Decoded.{firstOf};
+ghost use Rattle.schema.specs.Decoded.{frontOf};
 ghost use Rattle.instance.specs.Matched.{readPartners, judgedPartners};
 ghost use Rattle.instance.specs.Written.{Written};
 
@@ -39,7 +39,7 @@ pub fn matching_length(n: usize) -> usize
 // Writes the sheet of n partners at the front of a tray that has room for it, and gives its byte length.
 pub fn write_matching(tray: &mut [u8], l: &[u32], n: usize) -> usize
     requires { ⌜ (n ≤ 512) × (n ≤ length (now l)) × (bytesFor (9 * n) ≤ length (now tray)) ⌝ }
-    ensures { λ r. ⌜ Written (matchingSheet (firstOf n (now (l .entry)))) (now (tray .entry)) r (now (tray .exit)) ⌝ }
+    ensures { λ r. ⌜ Written (matchingSheet (frontOf n (now (l .entry)))) (now (tray .entry)) r (now (tray .exit)) ⌝ }
 {
     let bytes = matching_length(n);
     bits::clear(&mut *tray, bytes);

@@ -19,7 +19,7 @@ ghost use Rattle.instance.specs.Decoded.{columnOf, tablesOf, Columns, Li
 ghost use Rattle.instance.specs.Tested.{linkTest, valueTest};
 
 // Whether n numbers from base on are below a bound.
-fn column_below(l: &[u32], base: usize, n: usize, bound: usize) -> bool
+pub fn column_below(l: &[u32], base: usize, n: usize, bound: usize) -> bool
     requires { ⌜ base + n ≤ length (now l) ⌝ }
     ensures { λ r. ⌜ r ≡ all (λ x. ltb x bound) (columnOf (now (l .entry)) base n) ⌝ }
 {
@@ -58,7 +58,7 @@ fn columns_below(n: usize, source: &[u8], target: &[u8], counts: &[u32], links: 
     while e < n {
         let rows = rows_of(source, counts, e);
         let bound = rows_of(target, counts, e);
-        if column_below(links, 512 * e, rows, bound) {
+        if column_below(links, Instance::ROWS * e, rows, bound) {
             e += 1;
         } else {
             return false;
@@ -82,7 +82,7 @@ fn columns_in_range(
     let mut a = 0;
     while a < n {
         let rows = rows_of(node, counts, a);
-        if column_in_range(kinds, kind[a] as usize, values, 512 * a, rows) {
+        if column_in_range(kinds, kind[a] as usize, values, Instance::ROWS * a, rows) {
             a += 1;
         } else {
             return false;

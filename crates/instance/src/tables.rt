@@ -1,10 +1,11 @@
 // The table list: for each table its first row among all rows, and its count.
 use crate::decode::wide;
+use schema::Schema;
 ghost use mathlib.Core.Path.{_≡_};
 ghost use Prim.Native.Nat.{_≤_, _<_};
 ghost use lib.ListN.{length, getD};
 ghost use Rattle.meaning.specs.Formats.{tablesFrom};
-ghost use Rattle.instance.specs.Decoded.{firstOf};
+ghost use Rattle.schema.specs.Decoded.{frontOf};
 ghost use Rattle.instance.specs.Tables.{noTable, tableListOf};
 
 pub struct Table {
@@ -13,9 +14,9 @@ pub struct Table {
 }
 
 // The table list of the first n counts.
-pub fn layout(counts: &[u32], n: usize) -> [Table; 16]
+pub fn layout(counts: &[u32], n: usize) -> [Table; Schema::NODES]
     requires { ⌜ (n ≤ 16) × (n ≤ length (now counts)) ⌝ }
-    ensures { λ r. ⌜ tableListOf n r ≡ tablesFrom 0 (firstOf n (now (counts .entry))) ⌝ }
+    ensures { λ r. ⌜ tableListOf n r ≡ tablesFrom 0 (frontOf n (now (counts .entry))) ⌝ }
 {
     let none = Table { first: 0, count: 0 };
     let mut list = [none; 16];
@@ -42,7 +43,7 @@ pub fn table_of(tables: &[Table], c: usize) -> Table
 }
 
 // Table c of the first n, which are lent as a table list: for callers that hold it in an array.
-pub fn table_among(list: [Table; 16], n: usize, c: usize) -> Table
+pub fn table_among(list: [Table; Schema::NODES], n: usize, c: usize) -> Table
     requires { ⌜ (c < n) × (n ≤ 16) ⌝ }
     ensures { λ r. ⌜ r ≡ getD list c noTable ⌝ }
 {

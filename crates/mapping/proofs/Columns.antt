@@ -14,9 +14,9 @@ use Rattle.meaning.specs.Sigma.{attributeOver}
 use Rattle.meaning.specs.Pi.{isBijective}
 use Rattle.meaning.proofs.Lists.{of-upto}
 use Rattle.schema.specs.declared.Schema.{Schema}
-use Rattle.schema.specs.Decoded.{schemaOf}
+use Rattle.schema.specs.Decoded.{schemaOf, frontOf}
 use Rattle.mapping.specs.declared.Mapping.{Mapping}
-use Rattle.mapping.specs.Decoded.{firstOf, mappingOf}
+use Rattle.mapping.specs.Decoded.{mappingOf}
 use Rattle.mapping.specs.Even.{isOver}
 use Rattle.mapping.proofs.Viewing.{attribute-at, attributes-count, attribute-is}
 use Rattle.mapping.proofs.Counting.{filter-filter, filter-same}
@@ -39,5 +39,5 @@ module _ (s : Schema) (f : Mapping) where
   pub attribute-over : (c b : ℕ) → attributeOver S F c b ≡ headOr 0 (filter (isOver (s .node) (f .attribute) c b) (upto (s .attributes)))
   attribute-over c b = ap (headOr 0) (attributes-over c b)
 
-  pub bijective-by : (t : Schema) → isBijective (schemaOf t) F ≡ all (λ b. eqb (length (filter (eqb b) (firstOf (s .attributes) (f .attribute)))) 1) (upto (t .attributes))
+  pub bijective-by : (t : Schema) → isBijective (schemaOf t) F ≡ all (λ b. eqb (length (filter (eqb b) (frontOf (s .attributes) (f .attribute)))) 1) (upto (t .attributes))
   bijective-by t = ap (λ (n : ℕ). all (λ b. eqb (length (filter (eqb b) (F .attributes))) 1) (upto n)) (attributes-count t)

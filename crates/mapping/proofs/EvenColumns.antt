@@ -11,6 +11,7 @@ use Rattle.meaning.specs.Schema.{attributeAt}
 use Rattle.meaning.specs.Formats as formats
 use Rattle.meaning.specs.Views.{nodeImage}
 use Rattle.meaning.specs.Evenness.{attributesAt, attributesOver, evenAt, even}
+use Rattle.meaning.proofs.Tabulate.{all-upto-same}
 use Rattle.schema.specs.declared.Schema.{Schema}
 use Rattle.schema.specs.declared.Paths.{Paths}
 use Rattle.schema.specs.Decoded.{schemaOf}
@@ -19,7 +20,7 @@ use Rattle.mapping.specs.declared.Mapping.{Mapping}
 use Rattle.mapping.specs.Decoded.{mappingOf}
 use Rattle.mapping.specs.Judged.{Schemas, Sound, sideClass}
 use Rattle.mapping.specs.Even.{evenColumnAt, evenColumnsAt, evenPathsAt}
-use Rattle.mapping.proofs.Viewing.{node-at, attributes-count, attribute-is, all-upto}
+use Rattle.mapping.proofs.Viewing.{node-at, attributes-count, attribute-is}
 use Rattle.mapping.proofs.Counting.{all-filter, all-both}
 use Rattle.mapping.proofs.Columns.{attributes-over}
 use Rattle.mapping.proofs.EvenPaths.{even-paths}
@@ -41,12 +42,12 @@ module _ (s t : Schema) (f : Mapping) where
   even-columns c l = sym (
       all-filter (λ b. eqb (attributeAt T b .node) (nodeImage F c)) (one c) (upto (length (T .attributes)))
       ∙ ap (λ (n : ℕ). all (λ b. cond (eqb (attributeAt T b .node) (nodeImage F c)) (one c b) true) (upto n)) (attributes-count t)
-      ∙ all-upto (λ b. cond (eqb (attributeAt T b .node) (nodeImage F c)) (one c b) true) (evenColumnAt (s .node) (f .attribute) (s .attributes) (t .node) c (getD (f .node) c 0)) (t .attributes)
+      ∙ all-upto-same (λ b. cond (eqb (attributeAt T b .node) (nodeImage F c)) (one c b) true) (evenColumnAt (s .node) (f .attribute) (s .attributes) (t .node) c (getD (f .node) c 0)) (t .attributes)
       (λ b k. rw (attribute-is t b k, node-at s f c l, attributes-over s f c b)))
 
   pub even-by : {source-paths target-paths : Paths} {over : List ℕ} → Schemas s t source-paths target-paths → Sound s t source-paths f → Filled 256 (sideClass (f .path) (target-paths .class)) 256 over →
       even S T F ≡ (all (evenPathsAt source-paths target-paths over (f .node)) (upto (s .graph .nodes)) && all (evenColumnsAt s t f) (upto (s .graph .nodes)))
   even-by {source-paths} {target-paths} {over} h k o =
-      all-upto (evenAt S T F) (λ c. evenPathsAt source-paths target-paths over (f .node) c && evenColumnsAt s t f c) (s .graph .nodes)
+      all-upto-same (evenAt S T F) (λ c. evenPathsAt source-paths target-paths over (f .node) c && evenColumnsAt s t f c) (s .graph .nodes)
       (λ c l. rw (even-paths h k o c l, even-columns c l))
       ∙ all-both (evenPathsAt source-paths target-paths over (f .node)) (evenColumnsAt s t f) (upto (s .graph .nodes))

@@ -9,18 +9,18 @@ use Rattle.theory.specs.Schema.{endpoint}
 use Rattle.meaning.specs.Lists.{upto, all}
 use Rattle.meaning.specs.Schema.{source, target, joins, attributeAt}
 use Rattle.meaning.specs.Judge.{edgeImageFits, attributeImageFits, imagesFit}
-use Rattle.meaning.proofs.Tabulate.{all-at}
+use Rattle.meaning.proofs.Tabulate.{all-at, all-upto-same}
 use Rattle.schema.specs.declared.Graph.{Graph}
 use Rattle.schema.specs.declared.Schema.{Schema}
-use Rattle.schema.specs.Decoded.{graphOf, schemaOf}
+use Rattle.schema.specs.Decoded.{graphOf, schemaOf, frontOf}
 use Rattle.schema.specs.Judged.{Sound}
 use Rattle.schema.proofs.GraphEdges.{edges-count, source-at, target-at}
 use Rattle.schema.proofs.Judging.{fit}
 use Rattle.agreement.proofs.Paths.{schema-is}
 use Rattle.mapping.specs.declared.Mapping.{Mapping}
-use Rattle.mapping.specs.Decoded.{firstOf, imageOf, noImage, mappingOf}
+use Rattle.mapping.specs.Decoded.{imageOf, noImage, mappingOf}
 use Rattle.mapping.specs.Judged.{NodesIn}
-use Rattle.mapping.proofs.Viewing.{node-at, edge-at, attribute-at, attributes-count, attribute-is, all-upto}
+use Rattle.mapping.proofs.Viewing.{node-at, edge-at, attribute-at, attributes-count, attribute-is}
 
 -- ---- the tests of an edge and of an attribute, by arrays
 abbrev pub edgeTest : Graph → Graph → Mapping → ℕ → Bool
@@ -58,7 +58,7 @@ module _ (s t : Schema) (f : Mapping) (S-is : Sound s) where
       )
 
   pub edges-test : all (edgeImageFits (schemaOf s) (schemaOf t) (mappingOf s f)) (upto (s .graph .edges)) ≡ all (edgeTest (s .graph) (t .graph) f) (upto (s .graph .edges))
-  edges-test = all-upto (edgeImageFits (schemaOf s) (schemaOf t) (mappingOf s f)) (edgeTest (s .graph) (t .graph) f) (s .graph .edges) edge-test
+  edges-test = all-upto-same (edgeImageFits (schemaOf s) (schemaOf t) (mappingOf s f)) (edgeTest (s .graph) (t .graph) f) (s .graph .edges) edge-test
 
   attribute-test : (a : ℕ) → a < s .attributes → attributeImageFits (schemaOf s) (schemaOf t) (mappingOf s f) a ≡ attributeTest s t f a
   attribute-test a l =
@@ -74,15 +74,15 @@ module _ (s t : Schema) (f : Mapping) (S-is : Sound s) where
       go false e = refl
 
   pub attributes-test : all (attributeImageFits (schemaOf s) (schemaOf t) (mappingOf s f)) (upto (s .attributes)) ≡ all (attributeTest s t f) (upto (s .attributes))
-  attributes-test = all-upto (attributeImageFits (schemaOf s) (schemaOf t) (mappingOf s f)) (attributeTest s t f) (s .attributes) attribute-test
+  attributes-test = all-upto-same (attributeImageFits (schemaOf s) (schemaOf t) (mappingOf s f)) (attributeTest s t f) (s .attributes) attribute-test
 
 -- the nodes' test gives what the others rely on
-pub nodes-in : {s t : Schema} {f : Mapping} → all (λ d. ltb d (t .graph .nodes)) (firstOf (s .graph .nodes) (f .node)) ≡ true → NodesIn s t f
+pub nodes-in : {s t : Schema} {f : Mapping} → all (λ d. ltb d (t .graph .nodes)) (frontOf (s .graph .nodes) (f .node)) ≡ true → NodesIn s t f
 nodes-in {s} {t} {f} h = record { each = λ c l. ltb-true (getD (f .node) c 0) (t .graph .nodes) (all-at (λ d. ltb d (t .graph .nodes)) (s .graph .nodes) (λ i. getD (f .node) i 0) h c l) }
 
 -- all three together
 pub fits-by : (s t : Schema) (f : Mapping) → imagesFit (schemaOf s) (schemaOf t) (mappingOf s f) ≡
-    (all (λ d. ltb d (t .graph .nodes)) (firstOf (s .graph .nodes) (f .node)) &&
+    (all (λ d. ltb d (t .graph .nodes)) (frontOf (s .graph .nodes) (f .node)) &&
     all (edgeImageFits (schemaOf s) (schemaOf t) (mappingOf s f)) (upto (s .graph .edges)) &&
     all (attributeImageFits (schemaOf s) (schemaOf t) (mappingOf s f)) (upto (s .attributes)))
 fits-by s t f = rw (edges-count (s .graph .edges) (s .graph .source) (s .graph .target), attributes-count s)

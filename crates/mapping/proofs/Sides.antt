@@ -11,7 +11,7 @@ use Rattle.meaning.specs.Schema.{Path, Equation, isPath, end}
 use Rattle.meaning.specs.PathEquality.{classOf, equal}
 use Rattle.meaning.specs.Judge.{edgeFits, attributeFits, equationFits, keepsEquations}
 use Rattle.meaning.specs.Views.{pathImage}
-use Rattle.meaning.proofs.Tabulate.{and-both, all-at}
+use Rattle.meaning.proofs.Tabulate.{and-both, all-at, all-same}
 use Rattle.agreement.proofs.Paths.{pathCount, numberOf, pathAt, number-in, number-path, path-iff, allPaths-each}
 use Rattle.schema.specs.declared.Schema.{Schema}
 use Rattle.schema.specs.declared.Path as declared
@@ -24,7 +24,6 @@ use Rattle.schema.proofs.EquationPairs.{path-numbered}
 use Rattle.mapping.specs.declared.Mapping.{Mapping}
 use Rattle.mapping.specs.Decoded.{mappingOf}
 use Rattle.mapping.specs.Judged.{Imageable, imageNumber, sideClass}
-use Rattle.mapping.proofs.Viewing.{all-same}
 use Rattle.mapping.proofs.Imaging.{image-below}
 use Rattle.mapping.proofs.ImageTable.{formed, images}
 
@@ -76,5 +75,5 @@ module _ {s t : Schema} {source-paths target-paths : Paths} {f : Mapping} (h : I
   agrees x = eqb (sideClass path (target-paths .class) (numberOf (graphOf (s .graph)) (x .left))) (sideClass path (target-paths .class) (numberOf (graphOf (s .graph)) (x .right)))
 
   pub keeps-by : keepsEquations (schemaOf s) (schemaOf t) (mappingOf s f) ≡ all agrees (schemaOf s .equations)
-  keeps-by = all-same (λ q. equal (schemaOf t) (pathImage (mappingOf s f) (q .left)) (pathImage (mappingOf s f) (q .right))) agrees (s .equations) (equation s)
+  keeps-by = all-same (λ q. equal (schemaOf t) (pathImage (mappingOf s f) (q .left)) (pathImage (mappingOf s f) (q .right))) agrees (s .equations) (equation s) (equation s)
       (λ q l. let u = sides s (h .schemas .source) q l in rw (side-class (equation s q .left) (u .0 .path), side-class (equation s q .right) (u .1 .path)))

@@ -1,4 +1,4 @@
--- A decoded mapping, read by node, edge and attribute; and a loop over all numbers below a bound.
+-- A decoded mapping, read by node, edge and attribute.
 use Prim.Native.Nat.{ℕ, zero, suc, _+_, _<_, _≤_}
 use mathlib.Core.Path.{_≡_, refl, sym, ap, _∙_}
 use mathlib.Core.Bool.{Bool, true, false, _&&_}
@@ -37,32 +37,3 @@ module _ (s : Schema) where
 
   pub attribute-is : (a : ℕ) → a < s .attributes → attributeAt (schemaOf s) a ≡ attribute a
   attribute-is a l = tabulate-getD (s .attributes) attribute _ a l
-
--- ---- all numbers below n
-range-tabulate : (s n : ℕ) → range s n ≡ tabulate n (λ i. s + i)
-range-tabulate s zero = refl
-range-tabulate s (suc n) =
-    ap (λ (x : ℕ). x ∷ range (suc s) n) (omega arith)
-    ∙ ap (λ (l : List ℕ). (s + 0) ∷ l) (range-tabulate (suc s) n ∙ tabulate-same n (λ i l. omega arith))
-
-pub upto-tabulate : (n : ℕ) → upto n ≡ tabulate n (λ i. i)
-upto-tabulate n = range-tabulate 0 n ∙ tabulate-same n (λ i l. omega arith)
-
-module _ {A : Type 0} (f g : A → Bool) where
-  pub all-same : (n : ℕ) (h : ℕ → A) → ((i : ℕ) → i < n → f (h i) ≡ g (h i)) → all f (tabulate n h) ≡ all g (tabulate n h)
-  all-same zero h e = refl
-  all-same (suc n) h e =
-      ap (λ (b : Bool). b && all f (tabulate n (λ i. h (suc i)))) (e 0 (omega arith))
-      ∙ ap (λ (b : Bool). g (h 0) && b) (all-same n (λ i. h (suc i)) (λ i l. e (suc i) (omega arith)))
-
--- a test of all numbers below n, by another that agrees with it there
-pub all-upto : (f g : ℕ → Bool) (n : ℕ) → ((i : ℕ) → i < n → f i ≡ g i) → all f (upto n) ≡ all g (upto n)
-all-upto f g n e = ap (all f) (upto-tabulate n) ∙ all-same f g n (λ i. i) e ∙ ap (all g) (sym (upto-tabulate n))
-
--- a loop that tests all numbers below n
-module _ {f : ℕ → Bool} {n i : ℕ} (u : Passed f n (λ k. k) i) where
-  pub upto-fail : i < n → f i ≡ false → all f (upto n) ≡ false
-  upto-fail l e = ap (all f) (upto-tabulate n) ∙ passed-fail u l e
-
-  pub upto-done : n ≤ i → all f (upto n) ≡ true
-  upto-done l = ap (all f) (upto-tabulate n) ∙ passed-done u l

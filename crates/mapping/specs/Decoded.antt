@@ -10,7 +10,7 @@ use Rattle.meaning.specs.Sheet.{Judged, faulty, sound, times}
 use Rattle.meaning.specs.Formats as meaning
 use Rattle.meaning.specs.Formats.{readEdges}
 use Rattle.schema.specs.declared.Schema.{Schema}
-use Rattle.schema.specs.Decoded.{readOf}
+use Rattle.schema.specs.Decoded.{readOf, frontOf}
 use Rattle.mapping.specs.declared.Image.{Image}
 use Rattle.mapping.specs.declared.Mapping.{Mapping}
 use Rattle.mapping.specs.declared.decode.ImageRead.{ImageRead}
@@ -19,7 +19,7 @@ use Rattle.mapping.specs.declared.decode.ImagesRead.{ImagesRead}
 -- ---- what a struct means
 
 abbrev pub imageOf : Image → List ℕ
-imageOf i = tabulate (i .length) (λ k. getD (i .edges) k 0)
+imageOf i = frontOf (i .length) (i .edges)
 
 -- what stands past the end of an array of images
 abbrev pub noImage : Image
@@ -28,12 +28,8 @@ noImage = record { length = 0; edges = [] }
 abbrev pub imagesOf : ℕ → List Image → List (List ℕ)
 imagesOf n l = tabulate n (λ e. imageOf (getD l e noImage))
 
--- the first n entries of an array
-abbrev pub firstOf : ℕ → List ℕ → List ℕ
-firstOf n l = tabulate n (λ i. getD l i 0)
-
 abbrev pub mappingOf : Schema → Mapping → meaning.Mapping
-mappingOf s f = record { nodes = firstOf (s .graph .nodes) (f .node); edges = imagesOf (s .graph .edges) (f .edge); attributes = firstOf (s .attributes) (f .attribute) }
+mappingOf s f = record { nodes = frontOf (s .graph .nodes) (f .node); edges = imagesOf (s .graph .edges) (f .edge); attributes = frontOf (s .attributes) (f .attribute) }
 
 -- the number with which the sheet is sent back, or what it says
 abbrev pub judgedMapping : Schema → Mapping → Judged meaning.Mapping

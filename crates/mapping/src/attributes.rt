@@ -7,13 +7,13 @@ ghost use lib.ListN.{length};
 ghost use lib.Dec.{eqb};
 ghost use Rattle.meaning.specs.Lists.{filter, position};
 ghost use Rattle.meaning.specs.Pi.{isBijective};
-ghost use Rattle.schema.specs.Decoded.{schemaOf};
-ghost use Rattle.mapping.specs.Decoded.{firstOf, mappingOf};
+ghost use Rattle.schema.specs.Decoded.{schemaOf, frontOf};
+ghost use Rattle.mapping.specs.Decoded.{mappingOf};
 
 // How many of the first n attributes have the image b.
 fn count_to(image: &[u8; Mapping::ATTRIBUTES], n: usize, b: u8) -> usize
     requires { ⌜ n ≤ 16 ⌝ }
-    ensures { λ r. ⌜ r ≡ length (filter (eqb b) (firstOf n (now (image .entry)))) ⌝ }
+    ensures { λ r. ⌜ r ≡ length (filter (eqb b) (frontOf n (now (image .entry)))) ⌝ }
 {
     let mut found: usize = 0;
     let mut a = 0;
@@ -49,7 +49,7 @@ pub fn is_bijective(s: Schema, t: Schema, f: Mapping) -> bool
 // The first of n attributes whose image is b, or n.
 pub fn attribute_to(image: &[u8; Mapping::ATTRIBUTES], n: usize, b: u8) -> usize
     requires { ⌜ n ≤ 16 ⌝ }
-    ensures { λ r. ⌜ r ≡ position (eqb b) (firstOf n (now (image .entry))) ⌝ }
+    ensures { λ r. ⌜ r ≡ position (eqb b) (frontOf n (now (image .entry))) ⌝ }
 {
     let mut a = 0;
     while a < n {

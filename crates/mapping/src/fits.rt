@@ -15,14 +15,14 @@ ghost use Rattle.theory.specs.Schema.{endpoint};
 ghost use Rattle.meaning.specs.Lists.{upto, all};
 ghost use Rattle.meaning.specs.Schema.{target, joins};
 ghost use Rattle.meaning.specs.Judge.{edgeImageFits, attributeImageFits, imagesFit};
-ghost use Rattle.schema.specs.Decoded.{graphOf, schemaOf};
+ghost use Rattle.schema.specs.Decoded.{graphOf, schemaOf, frontOf};
 ghost use Rattle.schema.specs.Judged.{Sound};
-ghost use Rattle.mapping.specs.Decoded.{firstOf, imageOf, mappingOf, Short};
+ghost use Rattle.mapping.specs.Decoded.{imageOf, mappingOf, Short};
 ghost use Rattle.mapping.specs.Judged.{NodesIn};
 
 fn nodes_fit(node: &[u8; Mapping::NODES], n: usize, bound: usize) -> bool
     requires { ⌜ n ≤ 16 ⌝ }
-    ensures { λ r. ⌜ r ≡ all (λ d. ltb d bound) (firstOf n (now (node .entry))) ⌝ }
+    ensures { λ r. ⌜ r ≡ all (λ d. ltb d bound) (frontOf n (now (node .entry))) ⌝ }
 {
     let mut c = 0;
     while c < n {

@@ -16,7 +16,7 @@ use Rattle.meaning.specs.Formats as meaning
 use Rattle.meaning.specs.Formats.{tableList}
 use Rattle.meaning.specs.Views.{count, rows, link, value}
 use Rattle.meaning.specs.Matching.{partner, partnersExist, linksKept, valuesKept, isMatching}
-use Rattle.meaning.proofs.Tabulate.{all-at}
+use Rattle.meaning.proofs.Tabulate.{all-at, upto-tabulate, all-same}
 use Rattle.schema.specs.declared.Schema.{Schema}
 use Rattle.schema.specs.Decoded.{schemaOf}
 use Rattle.schema.proofs.GraphEdges.{edges-count, source-at, target-at}
@@ -24,15 +24,18 @@ use Rattle.instance.specs.declared.Instance.{Instance}
 use Rattle.instance.specs.declared.tables.Table.{Table}
 use Rattle.instance.specs.Decoded.{rowsOf, tablesOf}
 use Rattle.instance.specs.Tables.{tableListOf}
-use Rattle.instance.proofs.Columns.{upto-tabulate, sumOf-part}
+use Rattle.instance.proofs.Columns.{sumOf-part}
 use Rattle.instance.proofs.SoundSchema.{source-in, target-in, home-in}
-use Rattle.instance.proofs.Following.{all-same, count-at, link-in}
-use Rattle.matching.specs.Compared.{partnersOf, firstIn, countIn, eachRow, partnerAt, existsAt, linkKept, valueKept, existTest, linkTest, valueTest, TablesListed, ColumnsPaired, LinksPaired, Comparable}
+use Rattle.instance.proofs.Following.{count-at, link-in}
+use Rattle.matching.specs.Compared.{partnersOf, firstIn, countIn, eachRow, partnerAt, linkKept, valueKept, existTest, linkTest, valueTest, TablesListed, ColumnsPaired, LinksPaired, Comparable}
 use Rattle.matching.proofs.TableRows.{column-entry, count-is, table-within, partner-is}
 
 -- a test of the first n numbers goes by what it says of each
+entries-same : (f g : ℕ → Bool) (y : ℕ → ℕ) {n m : ℕ} → n ≡ m → ((r : ℕ) → r < n → f r ≡ g (y r)) → all f (upto n) ≡ all g (tabulate m y)
+entries-same f g y {n} e h = ap (all f) (upto-tabulate n) ∙ all-same f g n (λ r. r) y h ∙ ap (λ (k : ℕ). all g (tabulate k y)) e
+
 rows-same : (f g : ℕ → Bool) {n m : ℕ} → n ≡ m → ((r : ℕ) → r < n → f r ≡ g r) → all f (upto n) ≡ eachRow m g
-rows-same f g {n} e h = ap (all f) (upto-tabulate n) ∙ all-same f g n (λ r. r) (λ r. r) h ∙ ap (λ (k : ℕ). eachRow k g) e
+rows-same f g = entries-same f g (λ r. r)
 
 module _ {t : Schema} {a : Instance} {links values : List ℕ} {b : Instance} {links′ values′ list : List ℕ} (K : Comparable t a links values b links′ values′ list)
     (tables : List Table) (laid : tableListOf (t .graph .nodes) tables ≡ tableList (tablesOf t a [] [])) where
@@ -62,7 +65,7 @@ module _ {t : Schema} {a : Instance} {links values : List ℕ} {b : Instance} {l
   Exist = all (existTest tables (b .counts) list) (tabulate nodes (λ c. c))
 
   exist-test : partnersExist (schemaOf t) A B partners ≡ Exist
-  exist-test = rows-same _ _ refl (λ c l. rows-same _ _ (rows-at c l) (λ r h. ap₂ ltb (partner-is t a tables laid list c r l h) (count-at t (K .sound) b links′ values′ c l)))
+  exist-test = rows-same _ _ refl (λ c l. entries-same _ _ _ (rows-at c l) (λ r h. ap₂ ltb (partner-is t a tables laid list c r l h) (count-at t (K .sound) b links′ values′ c l)))
 
   pub tables-listed : TablesListed nodes tables list
   tables-listed = record { few = K .sound .limits .nodes; listed = λ c l. le-trans (within c l) (K .long) }
@@ -70,7 +73,7 @@ module _ {t : Schema} {a : Instance} {links values : List ℕ} {b : Instance} {l
   module _ (exist : Exist ≡ true) where
     partner-in : (c : ℕ) → c < nodes → (r : ℕ) → r < countIn tables c → partnerAt list (firstIn tables c) r < getD (b .counts) c 0
     partner-in c l r h =
-        ltb-true _ _ (all-at (existsAt list (firstIn tables c) (getD (b .counts) c 0)) (countIn tables c) (λ r. r) (all-at (existTest tables (b .counts) list) nodes (λ c. c) exist c l) r h)
+        ltb-true _ _ (all-at (λ x. ltb x (getD (b .counts) c 0)) (countIn tables c) (partnerAt list (firstIn tables c)) (all-at (existTest tables (b .counts) list) nodes (λ c. c) exist c l) r h)
 
     columns-paired : (n : ℕ) (home : List ℕ) {x y : List ℕ} → n ≤ length home → ((k : ℕ) → k < n → getD home k 0 < nodes) → 512 * n ≤ length x → 512 * n ≤ length y → ColumnsPaired n nodes home tables list x y
     columns-paired n home e h p q = record {

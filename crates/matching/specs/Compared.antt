@@ -10,16 +10,16 @@ use Rattle.theory.specs.Numbering.{tabulate}
 use Rattle.meaning.specs.Lists.{all, sumOf}
 use Rattle.meaning.specs.Judge.{linksInRange}
 use Rattle.schema.specs.declared.Schema.{Schema}
-use Rattle.schema.specs.Decoded.{schemaOf}
+use Rattle.schema.specs.Decoded.{schemaOf, frontOf}
 use Rattle.schema.specs.Judged.{Sound}
 use Rattle.instance.specs.declared.Instance.{Instance}
 use Rattle.instance.specs.declared.tables.Table.{Table}
-use Rattle.instance.specs.Decoded.{firstOf, tablesOf, Limits, RoomFor}
+use Rattle.instance.specs.Decoded.{columnOf, tablesOf, Limits, RoomFor}
 use Rattle.instance.specs.Tables.{noTable}
 
 -- the partners of an instance's rows, at the front of an array
 abbrev pub partnersOf : Schema → Instance → List ℕ → List ℕ
-partnersOf t a list = firstOf (sumOf (firstOf (t .graph .nodes) (a .counts))) list
+partnersOf t a list = frontOf (sumOf (frontOf (t .graph .nodes) (a .counts))) list
 
 -- where the rows of table c begin, and how many they are
 abbrev pub firstIn : List Table → ℕ → ℕ
@@ -35,9 +35,6 @@ eachRow n test = all test (tabulate n (λ r. r))
 
 abbrev pub partnerAt : List ℕ → ℕ → ℕ → ℕ
 partnerAt list first r = getD list (first + r) 0
-
-abbrev pub existsAt : List ℕ → ℕ → ℕ → ℕ → Bool
-existsAt list first bound r = ltb (partnerAt list first r) bound
 
 abbrev pub linkKept : List ℕ → ℕ → ℕ → List ℕ → List ℕ → ℕ → ℕ → Bool
 linkKept list source target a b base r = eqb (partnerAt list target (getD a (base + r) 0)) (getD b (base + partnerAt list source r) 0)
@@ -58,7 +55,7 @@ pub record Targets (list : List ℕ) (target : ℕ) (a : List ℕ) (base n : ℕ
 -- ---- of all rows of one table, edge or attribute
 
 abbrev pub existTest : List Table → List ℕ → List ℕ → ℕ → Bool
-existTest tables counts list c = eachRow (countIn tables c) (existsAt list (firstIn tables c) (getD counts c 0))
+existTest tables counts list c = all (λ x. ltb x (getD counts c 0)) (columnOf list (firstIn tables c) (countIn tables c))
 
 abbrev pub linkTest : List ℕ → List ℕ → List Table → List ℕ → List ℕ → List ℕ → ℕ → Bool
 linkTest source target tables list a b e =

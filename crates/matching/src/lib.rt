@@ -4,11 +4,11 @@ pub mod turning;
 
 use instance::Instance;
 use instance::decode::wide;
+use instance::range::column_below;
 use instance::tables::Table;
 use instance::tables::layout;
 use instance::tables::table_among;
 use rows::links_agree;
-use rows::partners_below;
 use rows::values_agree;
 use schema::Schema;
 ghost use mathlib.Core.Path.{_≡_};
@@ -29,7 +29,7 @@ fn partners_exist(n: usize, tables: [Table; Schema::NODES], counts: &[u32], list
     let mut c = 0;
     while c < n {
         let table = table_among(tables, n, c);
-        if partners_below(list, table.first, table.count, wide(counts[c])) {
+        if column_below(list, table.first, table.count, wide(counts[c])) {
             c += 1;
         } else {
             return false;

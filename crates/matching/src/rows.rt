@@ -2,24 +2,7 @@
 // from a base on.
 use instance::decode::wide;
 ghost use mathlib.Core.Path.{_≡_};
-ghost use Prim.Native.Nat.{_+_, _≤_};
-ghost use lib.ListN.{length};
-ghost use Rattle.matching.specs.Compared.{eachRow, existsAt, linkKept, valueKept, Paired, Targets};
-
-// Whether the partners of n rows are below a bound.
-pub fn partners_below(list: &[u32], first: usize, n: usize, bound: usize) -> bool
-    requires { ⌜ first + n ≤ length (now list) ⌝ }
-    ensures { λ r. ⌜ r ≡ eachRow n (existsAt (now (list .entry)) first bound) ⌝ }
-{
-    let mut r = 0;
-    while r < n {
-        if wide(list[first + r]) >= bound {
-            return false;
-        }
-        r += 1;
-    }
-    true
-}
+ghost use Rattle.matching.specs.Compared.{eachRow, linkKept, valueKept, Paired, Targets};
 
 // Whether for each of n rows the partner of its target is the target of its partner: a and b have the links along one edge.
 pub fn links_agree(

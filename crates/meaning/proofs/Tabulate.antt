@@ -1,17 +1,17 @@
 -- Laws of `tabulate`: what is decoded into arrays, read as a list.
 use Prim.Native.Nat.{ℕ, zero, suc, _+_, _-_, _<_, _≤_}
-use mathlib.Core.Path.{_≡_, refl, ap, _∙_}
+use mathlib.Core.Path.{_≡_, refl, sym, ap, ap₂, _∙_}
 use mathlib.Core.Bool.{Bool, true, false, _&&_}
 use mathlib.Core.List.{List, [], _∷_, _++_}
 use native.Mathlib.Omega.{arith}
-use native.Mathlib.Nat.{not-suc-le-zero, le-of-suc-le-suc}
+use native.Mathlib.Nat.{add-zero, not-suc-le-zero, le-of-suc-le-suc}
 use lib.ListN.{length, getD, set, drop}
 use native.Mathlib.Numerals.{add-one}
 use lib.Seq.{getD-set-same, getD-set-other, drop-cons}
 use borrow.Author.Count.{below-more}
 use Rattle.theory.specs.Numbering.{tabulate}
 use Rattle.theory.proofs.Numbering.{tabulate-length, tabulate-getD}
-use Rattle.meaning.specs.Lists.{all}
+use Rattle.meaning.specs.Lists.{range, upto, all}
 
 module _ {A : Type 0} where
   pub tabulate-more : (n : ℕ) (f : ℕ → A) → tabulate (suc n) f ≡ tabulate n f ++ (f n ∷ [])
@@ -84,3 +84,23 @@ module _ {A : Type 0} (g : A → Bool) where
   all-at zero f h i l = absurd (not-suc-le-zero l)
   all-at (suc n) f h zero l = and-both (g (f 0)) (all g (tabulate n (λ j. f (suc j)))) h .0
   all-at (suc n) f h (suc i) l = all-at n (λ j. f (suc j)) (and-both (g (f 0)) (all g (tabulate n (λ j. f (suc j)))) h .1) i (le-of-suc-le-suc l)
+
+-- ---- all numbers below n
+range-tabulate : (start n : ℕ) → range start n ≡ tabulate n (λ i. start + i)
+range-tabulate start zero = refl
+range-tabulate start (suc n) =
+    ap₂ (λ (x : ℕ) (l : List ℕ). x ∷ l) (sym (add-zero start))
+    (range-tabulate (suc start) n ∙ tabulate-same n (λ i l. omega arith))
+
+pub upto-tabulate : (n : ℕ) → upto n ≡ tabulate n (λ i. i)
+upto-tabulate n = range-tabulate 0 n ∙ tabulate-same n (λ i l. omega arith)
+
+-- a test of each of n things goes by what it says of each
+module _ {A B : Type 0} where
+  pub all-same : (f : A → Bool) (g : B → Bool) (n : ℕ) (x : ℕ → A) (y : ℕ → B) → ((i : ℕ) → i < n → f (x i) ≡ g (y i)) → all f (tabulate n x) ≡ all g (tabulate n y)
+  all-same f g zero x y h = refl
+  all-same f g (suc n) x y h =
+      ap₂ (λ (a b : Bool). a && b) (h 0 (omega arith)) (all-same f g n (λ i. x (suc i)) (λ i. y (suc i)) (λ i l. h (suc i) (omega arith)))
+
+pub all-upto-same : (f g : ℕ → Bool) (n : ℕ) → ((i : ℕ) → i < n → f i ≡ g i) → all f (upto n) ≡ all g (upto n)
+all-upto-same f g n e = ap (all f) (upto-tabulate n) ∙ all-same f g n (λ i. i) (λ i. i) e ∙ ap (all g) (sym (upto-tabulate n))

@@ -12,11 +12,11 @@ use Rattle.meaning.specs.Pi.{isBijective, hasFewComponents}
 use Rattle.meaning.specs.Judge.{judgeInstance}
 use Rattle.meaning.specs.Calls as meaning
 use Rattle.meaning.specs.Calls.{Outcome, accepted, at, ensure, migration, piTables, _>>=_}
-use Rattle.schema.specs.Decoded.{schemaOf}
+use Rattle.schema.specs.Decoded.{schemaOf, frontOf}
 use Rattle.schema.specs.Judged.{Sound}
 use Rattle.instance.proofs.Rooms.{room-for}
 use Rattle.mapping.specs.Decoded.{mappingOf}
-use Rattle.instance.specs.Decoded.{firstOf, Room}
+use Rattle.instance.specs.Decoded.{Room}
 use Rattle.pi.specs.declared.PiTables.{PiTables}
 use Rattle.pi.specs.declared.components.Components.{Components}
 use Rattle.pi.specs.Components.{AllComponents}
@@ -57,7 +57,7 @@ module _ (x : Run) (links values : List ℕ) where
   module _ (T : Sound (x .opened .target)) {r : PiTables} {found read : List ℕ} (R : Room found read) (u : GivesPi (x .opened .source) (x .opened .target) (x .opened .mapping) (x .run) links values r found read) where
     pub joined-made : r .fits ≡ true → Migrates (record { refusal = refusal 0 0; schema = x .opened .target; tables = r .tables }) found read (joinedRun (runInputOf (x .opened) (x .run) links values))
     joined-made fit =
-        let few : leb (sumOf (firstOf (x .opened .target .graph .nodes) (r .tables .counts))) maxRows ≡ true = ap (λ (J : formats.Instance). leb (sumOf (J .counts)) maxRows) (u .says fit) ∙ sym (u .fits) ∙ fit in
+        let few : leb (sumOf (frontOf (x .opened .target .graph .nodes) (r .tables .counts))) maxRows ≡ true = ap (λ (J : formats.Instance). leb (sumOf (J .counts)) maxRows) (u .says fit) ∙ sym (u .fits) ∙ fit in
         made T (room-for T R) (u .long) (ap (λ (b : Bool). cond {A = ℕ} b 0 15) (sym few)) (
         ap (λ (J : formats.Instance). outcomeOf (size J) (record { schema = schemaOf (x .opened .target); tables = J })) (u .says fit) ∙
         yields (size tables) tables (sized tables) (λ P. record { schema = schemaOf (x .opened .target); tables = P }))

@@ -15,8 +15,9 @@ use Rattle.meaning.specs.Matching.{judgeMatching}
 use Rattle.meaning.specs.Sigma.{sigma}
 use Rattle.meaning.specs.Calls as meaning
 use Rattle.meaning.specs.Calls.{Outcome, refused, accepted, _>>=_, judgeRaw, judgePushed}
+use Rattle.schema.specs.Decoded.{frontOf}
 use Rattle.instance.specs.declared.Instance.{Instance}
-use Rattle.instance.specs.Decoded.{firstOf, tablesOf, Room}
+use Rattle.instance.specs.Decoded.{tablesOf, Room}
 use Rattle.instance.proofs.Rooms.{room-for}
 use Rattle.delta.specs.Pulled.{deltaOf, Pulled}
 use Rattle.sigma.specs.Pushed.{Pushed}
@@ -47,7 +48,7 @@ module _ {x : Sides} {links values links′ values′ : List ℕ} (M : Migratabl
   one-overfull e = rw (fit, e)
 
   -- ---- n is 15 where Delta's counts, which d has, are too large, else 0
-  module _ (d : Instance) {n : ℕ} (C : firstOf (x .opened .source .graph .nodes) (d .counts) ≡ pulled .counts) (D : n ≡ cond (leb (sumOf (firstOf (x .opened .source .graph .nodes) (d .counts))) maxRows) 0 15) where
+  module _ (d : Instance) {n : ℕ} (C : frontOf (x .opened .source .graph .nodes) (d .counts) ≡ pulled .counts) (D : n ≡ cond (leb (sumOf (frontOf (x .opened .source .graph .nodes) (d .counts))) maxRows) 0 15) where
     size-is : n ≡ cond (leb (sumOf (pulled .counts)) maxRows) 0 15
     size-is = D ∙ ap (λ (l : List ℕ). cond (leb (sumOf l) maxRows) 0 15) C
 
@@ -84,9 +85,9 @@ module _ {x : Sides} {links values links′ values′ : List ℕ} (M : Migratabl
 
     -- the list has as many partners as the run has rows
     same-partners : (list : List ℕ) → partnersOf (x .opened .source) (x .run) list ≡ partnersOf (x .opened .target) p list
-    same-partners list = ap (λ (n : ℕ). firstOf n list) (sym (ap (λ (J : formats.Instance). sumOf (J .counts)) (P .says) ∙ pushed-rows M))
+    same-partners list = ap (λ (n : ℕ). frontOf n list) (sym (ap (λ (J : formats.Instance). sumOf (J .counts)) (P .says) ∙ pushed-rows M))
 
-    pub pushed-told : (d : Instance) {n : ℕ} → firstOf (x .opened .source .graph .nodes) (d .counts) ≡ pulled .counts → n ≡ cond (leb (sumOf (firstOf (x .opened .source .graph .nodes) (d .counts))) maxRows) 0 15
+    pub pushed-told : (d : Instance) {n : ℕ} → frontOf (x .opened .source .graph .nodes) (d .counts) ≡ pulled .counts → n ≡ cond (leb (sumOf (frontOf (x .opened .source .graph .nodes) (d .counts))) maxRows) 0 15
         → n ≡ 0 → (fault : ℕ) (list sheet : List ℕ)
         → judgedMatching (x .opened .target) p fault list ≡ judgeMatching (y .m .T) (tablesOf (x .opened .target) p followed copied) (y .book) sheet
         → outcomeOf (refusal fault 6) (partnersOf (x .opened .source) (x .run) list) ≡ pushedList y sheet

@@ -15,11 +15,11 @@ use Rattle.meaning.specs.Delta.{delta}
 use Rattle.meaning.specs.Calls as meaning
 use Rattle.meaning.specs.Calls.{Outcome, accepted, at, ensureFits, _>>=_}
 use Rattle.schema.specs.declared.Schema.{Schema}
-use Rattle.schema.specs.Decoded.{schemaOf}
+use Rattle.schema.specs.Decoded.{schemaOf, frontOf}
 use Rattle.schema.specs.Judged.{Sound}
 use Rattle.mapping.specs.Decoded.{mappingOf}
 use Rattle.instance.specs.declared.Instance.{Instance}
-use Rattle.instance.specs.Decoded.{firstOf, tablesOf, judgedInstance, RoomFor}
+use Rattle.instance.specs.Decoded.{tablesOf, judgedInstance, RoomFor}
 use Rattle.delta.specs.Pulled.{deltaOf, Pulled}
 use Rattle.migration.specs.declared.Refusal.{Refusal}
 use Rattle.migration.specs.declared.open.Opened.{Opened}
@@ -45,12 +45,12 @@ few-rows n e = go (leb n maxRows) refl e
 
 module _ {t : Schema} {i : Instance} {M : Outcome meaning.Migrated} (S : Sound t) where
   -- a result that was made, of its size
-  pub made : {links values : List ℕ} {n : ℕ} → RoomFor t links values → length (i .counts) ≡ 16 → n ≡ cond (leb (sumOf (firstOf (t .graph .nodes) (i .counts))) maxRows) 0 15
+  pub made : {links values : List ℕ} {n : ℕ} → RoomFor t links values → length (i .counts) ≡ 16 → n ≡ cond (leb (sumOf (frontOf (t .graph .nodes) (i .counts))) maxRows) 0 15
       → outcomeOf (size (tablesOf t i links values)) (record { schema = schemaOf t; tables = tablesOf t i links values }) ≡ M
       → Migrates (record { refusal = refusal n 0; schema = t; tables = i }) links values M
   made {links} {values} {n} R l d e = record {
     says = ap (λ (n : ℕ). outcomeOf (refusal n 0) (record { schema = schemaOf t; tables = tablesOf t i links values })) d ∙ e;
-    writable = record { sound = S; limits = λ z. record { rows = few-rows (sumOf (firstOf (t .graph .nodes) (i .counts))) (sym d ∙ z); long = l }; room = R };
+    writable = record { sound = S; limits = λ z. record { rows = few-rows (sumOf (frontOf (t .graph .nodes) (i .counts))) (sym d ∙ z); long = l }; room = R };
   }
 
   -- none was made
@@ -83,7 +83,7 @@ module _ (o : Opened) (b : Instance) (links values j : List ℕ) (J : judgedInst
 
   module _ {r : Refusal} (S : Sound (o .source)) (e : r ≡ orNext (o .refusal) (refusal (b .fault) 4)) where
     pub delta-made : {d : Instance} {followed copied : List ℕ} {n : ℕ} → r .number ≡ 0 → Pulled (o .source) (o .target) (o .mapping) b links values d followed copied
-        → n ≡ cond (leb (sumOf (firstOf (o .source .graph .nodes) (d .counts))) maxRows) 0 15 → RoomFor (o .source) followed copied
+        → n ≡ cond (leb (sumOf (frontOf (o .source .graph .nodes) (d .counts))) maxRows) 0 15 → RoomFor (o .source) followed copied
         → Migrates (record { refusal = refusal n 0; schema = o .source; tables = d }) followed copied (pulledBook (openedOf o) j)
     delta-made z p d R =
         made S R (p .long) d (

@@ -10,15 +10,15 @@ use Rattle.meaning.specs.Formats as formats
 use Rattle.meaning.specs.Judge.{_>>=_, ensure}
 use Rattle.meaning.specs.Matching.{isMatching, judgeMatching}
 use Rattle.schema.specs.declared.Schema.{Schema}
-use Rattle.schema.specs.Decoded.{schemaOf}
+use Rattle.schema.specs.Decoded.{schemaOf, frontOf}
 use Rattle.instance.specs.declared.Instance.{Instance}
-use Rattle.instance.specs.Decoded.{firstOf, tablesOf}
+use Rattle.instance.specs.Decoded.{tablesOf}
 use Rattle.instance.specs.Matched.{readPartners, judgedPartners}
 use Rattle.matching.specs.Compared.{partnersOf}
 use Rattle.migration.specs.Matched.{judgedMatching}
 
 module _ (t : Schema) (a : Instance) (links values : List ℕ) (B : formats.Instance) (sheet list : List ℕ) (fault : ℕ) {n : ℕ}
-    (N : n ≡ sumOf (firstOf (t .graph .nodes) (a .counts))) (R : judgedPartners fault n list ≡ onSheet (readPartners n) sheet) where
+    (N : n ≡ sumOf (frontOf (t .graph .nodes) (a .counts))) (R : judgedPartners fault n list ≡ onSheet (readPartners n) sheet) where
   abbrev A : formats.Instance
   A = tablesOf t a links values
 

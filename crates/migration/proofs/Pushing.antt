@@ -12,11 +12,11 @@ use Rattle.meaning.specs.Evenness.{even}
 use Rattle.meaning.specs.Judge.{judgeInstance}
 use Rattle.meaning.specs.Calls as meaning
 use Rattle.meaning.specs.Calls.{Outcome, _>>=_, at, ensure, Migration, migration, sigmaTables}
-use Rattle.schema.specs.Decoded.{schemaOf}
+use Rattle.schema.specs.Decoded.{schemaOf, frontOf}
 use Rattle.schema.specs.Judged.{Sound}
 use Rattle.mapping.specs.Decoded.{mappingOf}
 use Rattle.instance.specs.declared.Instance.{Instance}
-use Rattle.instance.specs.Decoded.{firstOf, RoomFor}
+use Rattle.instance.specs.Decoded.{RoomFor}
 use Rattle.sigma.specs.Pushed.{sigmaOf, Pushed}
 use Rattle.migration.specs.declared.Refusal.{Refusal}
 use Rattle.migration.specs.declared.open.Opened.{Opened}
@@ -47,7 +47,7 @@ module _ (o : Opened) (run : Instance) (links values : List ℕ) where
 
   -- Sigma's tables, of their size
   pub push-made : Sound (o .target) → {r : Instance} {followed copied : List ℕ} {n : ℕ} → Pushed (o .source) (o .target) (o .mapping) run links values r followed copied
-      → n ≡ cond (leb (sumOf (firstOf (o .target .graph .nodes) (r .counts))) maxRows) 0 15 → RoomFor (o .target) followed copied
+      → n ≡ cond (leb (sumOf (frontOf (o .target .graph .nodes) (r .counts))) maxRows) 0 15 → RoomFor (o .target) followed copied
       → Migrates (record { refusal = refusal n 0; schema = o .target; tables = r }) followed copied (pushedRun input)
   push-made S p d R =
       made S R (p .long) d (

@@ -11,10 +11,11 @@ use Rattle.theory.proofs.Numbering.{tabulate-getD}
 use Rattle.meaning.specs.Lists.{sumOf}
 use Rattle.meaning.specs.Formats as formats
 use Rattle.meaning.specs.Views.{instanceOf}
+use Rattle.schema.specs.Decoded.{frontOf}
 use Rattle.mapping.proofs.Viewing.{node-at}
 use Rattle.mapping.proofs.JoinedRows.{joined-length}
 use Rattle.instance.specs.declared.Instance.{Instance}
-use Rattle.instance.specs.Decoded.{firstOf, tablesOf}
+use Rattle.instance.specs.Decoded.{tablesOf}
 use Rattle.delta.proofs.Pulling.{tabulate-upto}
 use Rattle.sigma.specs.Pushed.{Counted}
 use Rattle.matching.specs.Compared.{partnersOf}
@@ -26,7 +27,7 @@ use Rattle.migration.proofs.Validity.{ready-valid}
 
 module _ {x : Sides} (R : ReadyToTurn x) {p : Instance} (C : Counted (x .opened .source) (x .opened .target) (x .opened .mapping) (x .run) p) where
   abbrev counts : List ℕ
-  counts = firstOf (x .opened .target .graph .nodes) (p .counts)
+  counts = frontOf (x .opened .target .graph .nodes) (p .counts)
 
   counts-are : counts ≡ pushedOf (turnableOf x []) .counts
   counts-are =
@@ -34,7 +35,7 @@ module _ {x : Sides} (R : ReadyToTurn x) {p : Instance} (C : Counted (x .opened 
       tabulate-upto (x .opened .target .graph .nodes) (λ d l.
       C .counts .each d l ∙ sym (joined-length s (x .opened .mapping) (tablesOf s (x .run) [] []) (x .run .counts) (λ c l. tabulate-getD (s .graph .nodes) (λ k. getD (x .run .counts) k 0) 0 c l) d))
 
-  rows-are : sumOf counts ≡ sumOf (firstOf (x .opened .source .graph .nodes) (x .run .counts))
+  rows-are : sumOf counts ≡ sumOf (frontOf (x .opened .source .graph .nodes) (x .run .counts))
   rows-are = ap sumOf counts-are ∙ R .rows
 
   pub may-turn : PushedCounts (x .opened .source) (x .opened .target) (x .opened .mapping) (x .run) p
@@ -49,7 +50,7 @@ module _ {x : Sides} (R : ReadyToTurn x) {p : Instance} (C : Counted (x .opened 
 
   -- a list of either side has as many partners
   same-partners : (list : List ℕ) → partnersOf (x .opened .target) p list ≡ partnersOf (x .opened .source) (x .run) list
-  same-partners list = ap (λ (n : ℕ). firstOf n list) rows-are
+  same-partners list = ap (λ (n : ℕ). frontOf n list) rows-are
 
   abbrev F : theoryMapping.Mapping
   F = mappingBetween (x .opened .source) (x .opened .target) (x .opened .mapping)
@@ -61,12 +62,12 @@ module _ {x : Sides} (R : ReadyToTurn x) {p : Instance} (C : Counted (x .opened 
       → partnersOf (x .opened .source) (x .run) out ≡ turnedList side.Pushed (turnableOf x list)
   unfolding share partners
   to-raw-told list out e =
-      let I = instanceOf (bare (firstOf (x .opened .source .graph .nodes) (x .run .counts))) in
+      let I = instanceOf (bare (frontOf (x .opened .source .graph .nodes) (x .run .counts))) in
       e ∙ ap (toRaw F I (instanceOf (bare counts))) (same-partners list) ∙ ap (λ (l : List ℕ). toRaw F I (instanceOf (bare l)) (partnersOf (x .opened .source) (x .run) list)) counts-are
 
   pub to-pushed-told : (list out : List ℕ) → partnersOf (x .opened .target) p out ≡ toPushed F (countsOf (x .opened .source) (x .run)) (countsOf (x .opened .target) p) (partnersOf (x .opened .source) (x .run) list)
       → partnersOf (x .opened .source) (x .run) out ≡ turnedList side.Raw (turnableOf x list)
   unfolding share partners
   to-pushed-told list out e =
-      let I = instanceOf (bare (firstOf (x .opened .source .graph .nodes) (x .run .counts))) in
+      let I = instanceOf (bare (frontOf (x .opened .source .graph .nodes) (x .run .counts))) in
       sym (same-partners out) ∙ e ∙ ap (λ (l : List ℕ). toPushed F I (instanceOf (bare l)) (partnersOf (x .opened .source) (x .run) list)) counts-are

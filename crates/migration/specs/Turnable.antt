@@ -8,7 +8,8 @@ use Rattle.meaning.specs.Formats as formats
 use Rattle.meaning.specs.Views.{mappingOf, instanceOf}
 use Rattle.meaning.specs.Sigma.{sigma}
 use Rattle.meaning.specs.Calls.{Outcome, accepted, _>>=_, Migration}
-use Rattle.instance.specs.Decoded.{firstOf, Limits}
+use Rattle.schema.specs.Decoded.{frontOf}
+use Rattle.instance.specs.Decoded.{Limits}
 use Rattle.matching.specs.Compared.{partnersOf}
 use Rattle.migration.specs.declared.sides.Sides.{Sides}
 use Rattle.migration.specs.declared.matchings.Side.{Side}
@@ -50,7 +51,7 @@ turnedList side.Raw z = toPushed (mappingOf (z .m .S) (z .m .T) (z .m .F)) (inst
 
 -- either list has as many partners as the run has rows
 abbrev pub turnableOf : Sides → List ℕ → Turnable
-turnableOf x list = record { m = migrationOf (x .opened); counts = firstOf (x .opened .source .graph .nodes) (x .run .counts); list = partnersOf (x .opened .source) (x .run) list }
+turnableOf x list = record { m = migrationOf (x .opened); counts = frontOf (x .opened .source .graph .nodes) (x .run .counts); list = partnersOf (x .opened .source) (x .run) list }
 
 -- what a turning relies on
 pub record ReadyToTurn (x : Sides) : Type 0 where

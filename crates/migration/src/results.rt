@@ -14,7 +14,7 @@ ghost use Rattle.meaning.specs.Lists.{sumOf};
 ghost use Rattle.meaning.specs.Formats.{maxRows};
 ghost use Rattle.meaning.specs.Calls.{sheetOf, inTray};
 ghost use Rattle.schema.specs.Judged.{Sound};
-ghost use Rattle.instance.specs.Decoded.{firstOf};
+ghost use Rattle.schema.specs.Decoded.{frontOf};
 ghost use Rattle.migration.specs.Answers.{outcomeOf, lentOf};
 ghost use Rattle.migration.specs.Migrated.{migratedOf, Writable};
 
@@ -28,7 +28,7 @@ pub struct Migrated {
 // 15 where an instance has too many rows, else 0.
 pub(crate) fn overfull(schema: Schema, tables: Instance) -> u8
     requires { ⌜ Sound schema × (length (tables .counts) ≡ 16) ⌝ }
-    ensures { λ r. ⌜ r ≡ cond (leb (sumOf (firstOf (schema .graph .nodes) (tables .counts))) maxRows) 0 15 ⌝ }
+    ensures { λ r. ⌜ r ≡ cond (leb (sumOf (frontOf (schema .graph .nodes) (tables .counts))) maxRows) 0 15 ⌝ }
 {
     let graph = schema.graph;
     let counts = tables.counts;

@@ -16,7 +16,7 @@ ghost use Prim.Native.Nat.{_≤_};
 ghost use lib.ListN.{length};
 ghost use Rattle.meaning.specs.Formats.{matchingSheet};
 ghost use Rattle.meaning.specs.Calls.{written, inTray};
-ghost use Rattle.instance.specs.Decoded.{firstOf};
+ghost use Rattle.schema.specs.Decoded.{frontOf};
 ghost use Rattle.matching.specs.Compared.{partnersOf};
 ghost use Rattle.migration.specs.Answers.{outcomeOf, lentOf, TurnedToRaw, TurnedToPushed};
 ghost use Rattle.migration.specs.Turnable.{turnableOf, turnedList, ReadyToTurn};
@@ -41,7 +41,7 @@ fn turn(side: Side, x: Sides, list: &[u32], out: &mut [u32])
 // Writes the sheet of n partners into a tray, or leaves the tray as it is.
 fn write_partners(list: &[u32], n: usize, tray: &mut [u8]) -> Written
     requires { ⌜ (n ≤ 512) × (n ≤ length (now list)) ⌝ }
-    ensures { λ r. ⌜ lentOf r (now (tray .exit)) ≡ written (now (tray .entry)) (matchingSheet (firstOf n (now (list .entry)))) ⌝ }
+    ensures { λ r. ⌜ lentOf r (now (tray .exit)) ≡ written (now (tray .entry)) (matchingSheet (frontOf n (now (list .entry)))) ⌝ }
 {
     if matching_length(n) <= tray.len() {
         return Written::Bytes(write_matching(&mut *tray, list, n));

@@ -19,10 +19,10 @@ use Rattle.meaning.proofs.Tabulate.{tabulate-same}
 use Rattle.meaning.proofs.Lists.{upto-all, filter-of, position-in}
 use Rattle.schema.specs.declared.Schema.{Schema}
 use Rattle.schema.specs.declared.Paths.{Paths}
-use Rattle.schema.specs.Decoded.{graphOf, schemaOf}
+use Rattle.schema.specs.Decoded.{graphOf, schemaOf, frontOf}
 use Rattle.schema.proofs.PathNumbers.{trivial-at, trivial-count}
 use Rattle.mapping.specs.declared.Mapping.{Mapping}
-use Rattle.mapping.specs.Decoded.{firstOf, mappingOf}
+use Rattle.mapping.specs.Decoded.{mappingOf}
 use Rattle.mapping.proofs.Viewing.{attributes-count, attribute-is}
 use Rattle.instance.specs.declared.Instance.{Instance}
 use Rattle.instance.specs.Decoded.{rowsOf, columnOf, columnsOf, tablesOf}
@@ -43,7 +43,7 @@ use Rattle.pi.proofs.ListedRows.{map-places, map-upto, entry-list, entr
 module _ (s t : Schema) (f : Mapping) (B : isBijective (schemaOf t) (mappingOf s f) ≡ true) where
   pub attribute-over : (b : ℕ) → b < t .attributes → attributeOver s (f .attribute) b < s .attributes
   attribute-over b l =
-      let images : List ℕ = firstOf (s .attributes) (f .attribute) in
+      let images : List ℕ = frontOf (s .attributes) (f .attribute) in
       let one = eqb-true (length (filter (eqb b) images)) 1 (upto-all (λ x. eqb (length (filter (eqb x) images)) 1) (length (schemaOf t .attributes)) B b (rw (attributes-count t) l)) in
       let m = filter-of (eqb b) images (mem-getD 0 (filter (eqb b) images) 0 (omega arith)) in
       omega (arith, position-in (eqb b) images (m .0) (m .1), tabulate-length (s .attributes) (λ i. getD (f .attribute) i 0))

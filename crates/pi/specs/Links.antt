@@ -11,7 +11,8 @@ use Rattle.meaning.specs.Lists.{upto, sumOf, position, sameList}
 use Rattle.schema.specs.declared.Graph.{Graph}
 use Rattle.schema.specs.declared.Paths.{Paths}
 use Rattle.schema.specs.PathWalks.{walkFrom, WalkIn}
-use Rattle.instance.specs.Decoded.{firstOf, columnOf}
+use Rattle.schema.specs.Decoded.{frontOf}
+use Rattle.instance.specs.Decoded.{columnOf}
 use Rattle.mapping.specs.PathEdges.{pathEdges}
 use Rattle.pi.specs.declared.components.Components.{Components}
 use Rattle.pi.specs.declared.links.TableRows.{TableRows}
@@ -67,7 +68,7 @@ rowPlace rows first count wanted m = position (λ x. sameList wanted (columnOf r
 
 -- the rows of the table at d
 abbrev pub tableRows : List ℕ → List ℕ → ℕ → TableRows
-tableRows counts widths d = record { first = sumOf (firstOf d counts); count = getD counts d 0; width = getD widths d 0 }
+tableRows counts widths d = record { first = sumOf (frontOf d counts); count = getD counts d 0; width = getD widths d 0 }
 
 -- they stand in the list of rows
 pub record Within (rows : List ℕ) (table : TableRows) : Type 0 where

@@ -7,7 +7,7 @@ use lib.Dec.{eqb}
 use Rattle.meaning.specs.Lists.{position}
 use Rattle.schema.specs.declared.Schema.{Schema}
 use Rattle.schema.specs.declared.Paths.{Paths}
-use Rattle.mapping.specs.Decoded.{firstOf}
+use Rattle.schema.specs.Decoded.{frontOf}
 use Rattle.instance.specs.Decoded.{rowsOf}
 use Rattle.pi.specs.declared.components.Components.{Components}
 use Rattle.pi.specs.declared.links.TableRows.{TableRows}
@@ -16,7 +16,7 @@ use Rattle.pi.specs.Links.{entryOf, tableRows, Within}
 
 -- the attribute of S whose image is b
 abbrev pub attributeOver : Schema → List ℕ → ℕ → ℕ
-attributeOver s image b = position (eqb b) (firstOf (s .attributes) image)
+attributeOver s image b = position (eqb b) (frontOf (s .attributes) image)
 
 abbrev pub attributeNode : Schema → ℕ → ℕ
 attributeNode t b = getD (t .node) b 0

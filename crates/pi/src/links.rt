@@ -14,7 +14,8 @@ ghost use mathlib.Core.Path.{_≡_};
 ghost use Prim.Native.Nat.{_+_, _*_, _≤_, _<_};
 ghost use lib.ListN.{length, getD};
 ghost use Rattle.schema.specs.Table.{Filled};
-ghost use Rattle.instance.specs.Decoded.{firstOf, columnOf, rowsOf};
+ghost use Rattle.schema.specs.Decoded.{frontOf};
+ghost use Rattle.instance.specs.Decoded.{columnOf, rowsOf};
 ghost use Rattle.delta.specs.Stored.{Stored, ColumnsStored};
 ghost use Rattle.pi.specs.Links.{afterEdge, Extends, placeAfter, targetOf, Traced, entryOf, rowPlace, tableRows, Within, Ordered, Compares, linkPlace, linkRow, Linkable};
 
@@ -98,7 +99,7 @@ fn restricted(
 // The m numbers from base on against those wanted: 0 where they are equal, 1 where they stand before them, 2 where behind.
 fn compare(rows: &[u16], base: usize, wanted: &[u16; Components::MOST], m: usize) -> usize
     requires { ⌜ (m ≤ 64) × (base + m ≤ length (now rows)) ⌝ }
-    ensures { λ r. ⌜ Compares (columnOf (now (rows .entry)) base m) (firstOf m (now (wanted .entry))) r ⌝ }
+    ensures { λ r. ⌜ Compares (columnOf (now (rows .entry)) base m) (frontOf m (now (wanted .entry))) r ⌝ }
 {
     let mut j = 0;
     while j < m {
@@ -118,7 +119,7 @@ fn compare(rows: &[u16], base: usize, wanted: &[u16; Components::MOST], m: usize
 // The place of the wanted row in a table, or the number of its rows: they ascend, so half of them are left out at each step.
 fn find_row(rows: &[u16], table: TableRows, wanted: &[u16; Components::MOST]) -> usize
     requires { ⌜ Within (now rows) table × Ordered (now rows) table ⌝ }
-    ensures { λ r. ⌜ r ≡ rowPlace (now (rows .entry)) (table .first) (table .count) (firstOf (table .width) (now (wanted .entry))) (table .width) ⌝ }
+    ensures { λ r. ⌜ r ≡ rowPlace (now (rows .entry)) (table .first) (table .count) (frontOf (table .width) (now (wanted .entry))) (table .width) ⌝ }
 {
     let mut low = 0;
     let mut high = table.count;

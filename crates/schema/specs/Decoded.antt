@@ -22,8 +22,12 @@ use Rattle.schema.specs.declared.decode.EquationsRead.{EquationsRead}
 
 -- ---- what a struct means
 
+-- the first n numbers of an array
+abbrev pub frontOf : ℕ → List ℕ → List ℕ
+frontOf n l = tabulate n (λ i. getD l i 0)
+
 abbrev pub pathOf : Path → meaning.Path
-pathOf p = meaning.path (p .start) (tabulate (p .length) (λ i. getD (p .edges) i 0))
+pathOf p = meaning.path (p .start) (frontOf (p .length) (p .edges))
 
 abbrev pub edgesOf : ℕ → List ℕ → List ℕ → List meaning.Edge
 edgesOf n source target = tabulate n (λ i. record { source = getD source i 0; target = getD target i 0 })

@@ -12,7 +12,7 @@ use borrow.Author.Tests.{eq-eqb, ne-eqb}
 use lib.ListN.{getD}
 use Rattle.meaning.specs.Lists.{upto, filter, headOr, sumOf}
 use Rattle.meaning.proofs.Lists.{filter-of, of-upto}
-use Rattle.instance.specs.Decoded.{firstOf}
+use Rattle.schema.specs.Decoded.{frontOf}
 use Rattle.instance.proofs.Columns.{sumOf-more}
 use Rattle.mapping.specs.Lifts.{joinedBefore}
 use Rattle.delta.specs.Stored.{Stored}
@@ -48,10 +48,10 @@ module _ (node counts : List ℕ) (d : ℕ) where
         | no q ↦ omega (arith, before-within n c (omega arith) e)
       ]
 
-  pub before-sum : (n : ℕ) → before n ≤ sumOf (firstOf n counts)
+  pub before-sum : (n : ℕ) → before n ≤ sumOf (frontOf n counts)
   before-sum zero = omega arith
   before-sum (suc n) =
-      let a : sumOf (firstOf (suc n) counts) ≡ sumOf (firstOf n counts) + getD counts n 0 = rw (add-one n) at (sumOf-more n (λ i. getD counts i 0)) in
+      let a : sumOf (frontOf (suc n) counts) ≡ sumOf (frontOf n counts) + getD counts n 0 = rw (add-one n) at (sumOf-more n (λ i. getD counts i 0)) in
       let b : before (suc n) ≤ before n + getD counts n 0 = rw (add-one n) at (before-grows n .1) in
       omega (arith, before-sum n)
 
@@ -60,10 +60,10 @@ module _ (node counts : List ℕ) (d c : ℕ) where
   joined-next base rows r e = omega (arith, before-more node counts d c e)
 
   -- the rows of a node over d are among at most 512
-  pub joined-room : (n : ℕ) → sumOf (firstOf n counts) ≤ 512 → c < n → getD node c 0 ≡ d → joinedBefore node counts d c + getD counts c 0 ≤ 512
+  pub joined-room : (n : ℕ) → sumOf (frontOf n counts) ≤ 512 → c < n → getD node c 0 ≡ d → joinedBefore node counts d c + getD counts c 0 ≤ 512
   joined-room n few l e = omega (arith, before-within node counts d n c l e, before-sum node counts d n)
 
-  pub joined-few : sumOf (firstOf c counts) ≤ 512 → joinedBefore node counts d c ≤ 512
+  pub joined-few : sumOf (frontOf c counts) ≤ 512 → joinedBefore node counts d c ≤ 512
   joined-few few = omega (arith, before-sum node counts d c)
 
 -- ---- node by node
@@ -95,7 +95,7 @@ pub columns-none : (node counts home : List ℕ) (n : ℕ) (g : ℕ → ℕ → 
 columns-none node counts home n g l = record { each = below-none _; long = refl }
 
 module _ {node counts home : List ℕ} {n k : ℕ} {g : ℕ → ℕ → ℕ → ℕ} {l r : List ℕ} (u : JoinedColumns node counts home n k g l r) where
-  pub columns-more : {q : List ℕ} → sumOf (firstOf n counts) ≤ 512 → JoinedStored node counts (getD home k 0) n (g k) (512 * k) r q → JoinedColumns node counts home n (k + 1) g l q
+  pub columns-more : {q : List ℕ} → sumOf (frontOf n counts) ≤ 512 → JoinedStored node counts (getD home k 0) n (g k) (512 * k) r q → JoinedColumns node counts home n (k + 1) g l q
   columns-more {q} few v = record {
     each = below-more (λ j. (c : ℕ) → c < n → getD node c 0 ≡ getD home j 0 → (x : ℕ) → x < getD counts c 0 → getD q (512 * j + joinedBefore node counts (getD home j 0) c + x) 0 ≡ g j c x) k
         (λ j m c h e x i.

@@ -31,10 +31,10 @@ use Rattle.agreement.proofs.Valid.{ValidMapping}
 use Rattle.agreement.proofs.Evenness.{even-iff, lift-is, attributeOver-is}
 use Rattle.schema.specs.declared.Schema.{Schema}
 use Rattle.schema.specs.declared.Paths.{Paths}
-use Rattle.schema.specs.Decoded.{graphOf, schemaOf}
+use Rattle.schema.specs.Decoded.{graphOf, schemaOf, frontOf}
 use Rattle.schema.proofs.GraphEdges.{edges-count, source-at}
 use Rattle.instance.specs.declared.Instance.{Instance}
-use Rattle.instance.specs.Decoded.{firstOf, rowsOf, columnOf, columnsOf, tablesOf}
+use Rattle.instance.specs.Decoded.{rowsOf, columnOf, columnsOf, tablesOf}
 use Rattle.instance.specs.Followed.{linkIn}
 use Rattle.instance.proofs.SoundSchema.{source-in, home-in}
 use Rattle.instance.proofs.Following.{count-at, rows-few, Led, led}
@@ -48,7 +48,7 @@ use Rattle.mapping.proofs.JoinedRows.{first-row, joined-length}
 use Rattle.mapping.proofs.Columns.{attribute-over}
 use Rattle.mapping.proofs.PathEdges.{edges-are}
 use Rattle.delta.proofs.Pulling.{tabulate-upto}
-use Rattle.sigma.specs.Joined.{JoinedColumns, overAttribute, valueOver}
+use Rattle.sigma.specs.Joined.{JoinedColumns, attributeIn, valueOver}
 use Rattle.sigma.specs.Lifted.{liftRow, LiftLeads}
 use Rattle.sigma.specs.Pushed.{Counted, AllLead, AllOver, Pushable, sigmaOf, Pushed}
 use Rattle.sigma.proofs.Joining.{before-more, before-skip, joined-room}
@@ -94,7 +94,7 @@ module _ (F : formats.Mapping) (node counts : List ℕ) (d : ℕ) (f : ℕ → L
             ∙ sym more
       ]
 
-module _ {s t : Schema} {sp tp : Paths} {f : Mapping} {run : Instance} {links values : List ℕ} (P : Pushable s t sp tp f run links values) where
+module _ {s t : Schema} {source-paths target-paths : Paths} {f : Mapping} {run : Instance} {links values : List ℕ} (P : Pushable s t source-paths target-paths f run links values) where
   abbrev S : meaning.Schema
   S = schemaOf s
 
@@ -128,18 +128,18 @@ module _ {s t : Schema} {sp tp : Paths} {f : Mapping} {run : Instance} {links va
   count-is = count-at s (P .schemas .source) run links values
 
   -- ---- counts
-  pub counts-are : {r : Instance} → Counted s t f run r → firstOf (t .graph .nodes) (r .counts) ≡ sigmaOf s t f run links values .counts
+  pub counts-are : {r : Instance} → Counted s t f run r → frontOf (t .graph .nodes) (r .counts) ≡ sigmaOf s t f run links values .counts
   counts-are C = tabulate-upto (t .graph .nodes) (λ d l. C .counts .each d l ∙ sym (joined-length s f I (run .counts) count-is d))
 
   -- ---- links: the lift of e at c, by its number
-  module _ {lifts : List ℕ} (U : EdgeLifts s t sp f (16 * t .graph .edges) lifts) (e : ℕ) (b : e < t .graph .edges) (c : ℕ) (l : c < s .graph .nodes) (at : getD (f .node) c 0 ≡ getD (t .graph .source) e 0) where
+  module _ {lifts : List ℕ} (U : EdgeLifts s t source-paths f (16 * t .graph .edges) lifts) (e : ℕ) (b : e < t .graph .edges) (c : ℕ) (l : c < s .graph .nodes) (at : getD (f .node) c 0 ≡ getD (t .graph .source) e 0) where
     abbrev number : ℕ
     number = getD lifts (16 * e + c) 0
 
     abbrev p : Path
     p = lift S T F c e
 
-    numbered : IsLift s t sp f c e number
+    numbered : IsLift s t source-paths f c e number
     numbered =
         let n = P .schemas .source .limits .nodes in
         let q : (16 * e + c) / 16 ≡ e = omega arith in
@@ -147,14 +147,14 @@ module _ {s t : Schema} {sp tp : Paths} {f : Mapping} {run : Instance} {links va
         rw (q, m) at (U .each (16 * e + c) (omega arith)) l (sym at)
 
     record Lifted : Type 0 where
-      below : number < sp .count
+      below : number < source-paths .count
       start : p .start ≡ c
       is-path : IsPath (views.schemaOf S) c (p .edges)
-      edges-is : pathEdges sp number ≡ p .edges
-      end-is : getD (sp .end) number 0 ≡ end G p
+      edges-is : pathEdges source-paths number ≡ p .edges
+      end-is : getD (source-paths .end) number 0 ≡ end G p
       end-in : end G p < s .graph .nodes
       reached-in : endpoint (target G) c (p .edges) < s .graph .nodes
-      short : getD (sp .length) number 0 ≤ 15
+      short : getD (source-paths .length) number 0 ≤ 15
 
     lifted : Lifted
     lifted =
@@ -165,7 +165,7 @@ module _ {s t : Schema} {sp tp : Paths} {f : Mapping} {run : Instance} {links va
         let u = lift-is valid evenness c l e (h, g, valid .is .T-is .tgt-in e h) in
         let w = u .1 .path in
         let k : length (p .edges) < s .graph .nodes = path-short S (valid .S-formed) c (p .edges) w in
-        let z : getD (sp .length) number 0 ≡ length (p .edges) = table .columns .length .each number (i .below) ∙ ap (λ (q : Path). length (q .edges)) (i .path) in
+        let z : getD (source-paths .length) number 0 ≡ length (p .edges) = table .columns .length .each number (i .below) ∙ ap (λ (q : Path). length (q .edges)) (i .path) in
         record {
           below = i .below;
           start = u .0;
@@ -186,10 +186,10 @@ module _ {s t : Schema} {sp tp : Paths} {f : Mapping} {run : Instance} {links va
           let t = path-iff S (P .schemas .source .well-formed) c (p .edges) .1 (lifted .is-path) in
           led s (P .schemas .source) run links values (P .limits) long (P .links-in) c (p .edges) x (and-both (ltb c (s .graph .nodes)) (joins G c (p .edges)) t .1) h
 
-      lift-leads : LiftLeads sp (f .node) (run .counts) links number (getD (run .counts) c 0)
+      lift-leads : LiftLeads source-paths (f .node) (run .counts) links number (getD (run .counts) c 0)
       lift-leads =
           let L = lifted in
-          let z = getD (sp .end) number 0 in
+          let z = getD (source-paths .end) number 0 in
           let i : z < s .graph .nodes = rw (L .end-is) (L .end-in) in
           let n = P .schemas .source .limits .nodes in
           record {
@@ -204,7 +204,7 @@ module _ {s t : Schema} {sp tp : Paths} {f : Mapping} {run : Instance} {links va
           }
 
       -- where the lift leads row x, by its place in the joined list
-      lift-row : (x : ℕ) → x < getD (run .counts) c 0 → liftRow sp (f .node) (run .counts) links number x ≡ firstRow F I (end G p) + follow I (p .edges) x
+      lift-row : (x : ℕ) → x < getD (run .counts) c 0 → liftRow source-paths (f .node) (run .counts) links number x ≡ firstRow F I (end G p) + follow I (p .edges) x
       lift-row x h =
           let L = lifted in
           ap₂ (λ (y : ℕ) (es : List ℕ). y + theory.follow (linkIn links) es x)
@@ -212,12 +212,12 @@ module _ {s t : Schema} {sp tp : Paths} {f : Mapping} {run : Instance} {links va
           (L .edges-is)
           ∙ ap (λ (y : ℕ). firstRow F I (end G p) + y) (led-from x h .same)
 
-  module _ (long : 512 * s .graph .edges ≤ length links) {lifts : List ℕ} (U : EdgeLifts s t sp f (16 * t .graph .edges) lifts) where
-    pub all-lead : AllLead s t sp f run lifts links
+  module _ (long : 512 * s .graph .edges ≤ length links) {lifts : List ℕ} (U : EdgeLifts s t source-paths f (16 * t .graph .edges) lifts) where
+    pub all-lead : AllLead s t source-paths f run lifts links
     all-lead = record { each = λ e b. record { each = λ c l at. lift-leads U e b c l at long } }
 
     abbrev liftRows : ℕ → ℕ → ℕ → ℕ
-    liftRows e c = liftRow sp (f .node) (run .counts) links (getD lifts (16 * e + c) 0)
+    liftRows e c = liftRow source-paths (f .node) (run .counts) links (getD lifts (16 * e + c) 0)
 
     module _ {r : Instance} (C : Counted s t f run r) {l₀ followed : List ℕ} (W : JoinedColumns (f .node) (run .counts) (t .graph .source) (s .graph .nodes) (t .graph .edges) liftRows l₀ followed) where
       links-at : (e : ℕ) → e < t .graph .edges → columnOf followed (512 * e) (rowsOf (t .graph .source) (r .counts) e) ≡ concatMap (λ c. linksAlong S F I c (lift S T F c e)) (fibre S F (source (T .graph) e))
@@ -252,7 +252,7 @@ module _ {s t : Schema} {sp tp : Paths} {f : Mapping} {run : Instance} {links va
         let i : a < s .attributes = omega (arith, o .attribute-in, attributes-count s) in
         record { inside = i; home = sym (ap (λ (x : meaning.Attribute). x .node) (attribute-is s a i)) ∙ o .home-is }
 
-    column-is : columnOf values (512 * overAttribute s f b c) (getD (run .counts) c 0) ≡ column I a
+    column-is : columnOf values (512 * attributeIn s f b c) (getD (run .counts) c 0) ≡ column I a
     column-is =
         ap₂ (λ (x y : ℕ). columnOf values (512 * x) (getD (run .counts) y 0)) (sym (attribute-over s f c b)) (sym (over .home))
         ∙ sym (tabulate-getD (s .attributes) (λ k. columnOf values (512 * k) (rowsOf (s .node) (run .counts) k)) [] a (over .inside))
@@ -276,7 +276,7 @@ module _ {s t : Schema} {sp tp : Paths} {f : Mapping} {run : Instance} {links va
         ∙ ap (λ (n : ℕ). map (λ b. concatMap (λ c. column I (attributeOver S F c b)) (fibre S F (attributeAt T b .node))) (upto n)) (sym (attributes-count t))
 
 -- ---- the whole
-pub pushed : {s t : Schema} {f : Mapping} {run r : Instance} {links values followed copied : List ℕ} → firstOf (t .graph .nodes) (r .counts) ≡ sigmaOf s t f run links values .counts
+pub pushed : {s t : Schema} {f : Mapping} {run r : Instance} {links values followed copied : List ℕ} → frontOf (t .graph .nodes) (r .counts) ≡ sigmaOf s t f run links values .counts
     → columnsOf (t .graph .edges) (rowsOf (t .graph .source) (r .counts)) followed ≡ sigmaOf s t f run links values .links
-    → columnsOf (t .attributes) (rowsOf (t .node) (r .counts)) copied ≡ sigmaOf s t f run links values .values → length (r .counts) ≡ 16 → Pushed s t f run links values r followed copied
-pushed a b c long = record { says = rw (a, b, c); long = long }
+    → columnsOf (t .attributes) (rowsOf (t .node) (r .counts)) copied ≡ sigmaOf s t f run links values .values → length (r .counts) ≡ 16 → r .fault ≡ 0 → Pushed s t f run links values r followed copied
+pushed a b c long sound = record { says = rw (a, b, c); long = long; unrefused = sound }

@@ -22,12 +22,12 @@ pub record JoinedColumns (node counts home : List ℕ) (n k : ℕ) (g : ℕ → 
   pub long : length r ≡ length l
 
 -- the attribute at c over b, and row x of its column
-abbrev pub overAttribute : Schema → Mapping → ℕ → ℕ → ℕ
-overAttribute s f b c = headOr 0 (filter (isOver (s .node) (f .attribute) c b) (upto (s .attributes)))
+abbrev pub attributeIn : Schema → Mapping → ℕ → ℕ → ℕ
+attributeIn s f b c = headOr 0 (filter (isOver (s .node) (f .attribute) c b) (upto (s .attributes)))
 
 -- there is one at each node over d
 pub record AttributesOver (s : Schema) (f : Mapping) (b d : ℕ) : Type 0 where
-  pub each : (c : ℕ) → c < s .graph .nodes → getD (f .node) c 0 ≡ d → overAttribute s f b c < s .attributes
+  pub each : (c : ℕ) → c < s .graph .nodes → getD (f .node) c 0 ≡ d → attributeIn s f b c < s .attributes
 
 abbrev pub valueOver : Schema → Mapping → List ℕ → ℕ → ℕ → ℕ → ℕ
-valueOver s f values b c x = getD values (512 * overAttribute s f b c + x) 0
+valueOver s f values b c x = getD values (512 * attributeIn s f b c + x) 0

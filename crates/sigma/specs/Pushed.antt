@@ -24,6 +24,7 @@ use Rattle.sigma.specs.Lifted.{LiftsLead}
 -- r has the counts of the joined lists
 pub record Counted (s t : Schema) (f : Mapping) (run r : Instance) : Type 0 where
   pub counts : Counts (t .graph .nodes) (λ d. joinedBefore (f .node) (run .counts) d (s .graph .nodes)) (r .counts)
+  pub unrefused : r .fault ≡ 0
 
 -- the lifts of each edge of T can be followed
 pub record AllLead (s t : Schema) (p : Paths) (f : Mapping) (run : Instance) (lifts links : List ℕ) : Type 0 where
@@ -36,9 +37,9 @@ pub record AllOver (s t : Schema) (f : Mapping) : Type 0 where
 -- ---- tables
 
 -- an even mapping from S to T with the tables of their paths, and a run over S whose links exist
-pub record Pushable (s t : Schema) (sp tp : Paths) (f : Mapping) (run : Instance) (links values : List ℕ) : Type 0 where
-  pub schemas : Schemas s t sp tp
-  pub mapping : Sound s t sp f
+pub record Pushable (s t : Schema) (source-paths target-paths : Paths) (f : Mapping) (run : Instance) (links values : List ℕ) : Type 0 where
+  pub schemas : Schemas s t source-paths target-paths
+  pub mapping : Sound s t source-paths f
   pub is-even : even (schemaOf s) (schemaOf t) (mappingOf s f) ≡ true
   pub limits : Limits s run
   pub links-in : linksInRange (schemaOf s) (tablesOf s run links values) ≡ true
@@ -51,3 +52,4 @@ sigmaOf s t f run links values = sigma (schemaOf s) (schemaOf t) (mappingOf s f)
 pub record Pushed (s t : Schema) (f : Mapping) (run : Instance) (links values : List ℕ) (r : Instance) (followed copied : List ℕ) : Type 0 where
   pub says : tablesOf t r followed copied ≡ sigmaOf s t f run links values
   pub long : length (r .counts) ≡ 16
+  pub unrefused : r .fault ≡ 0

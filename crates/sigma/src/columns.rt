@@ -19,11 +19,11 @@ ghost use Rattle.instance.specs.Decoded.{Limits};
 ghost use Rattle.instance.specs.Followed.{linkIn};
 ghost use Rattle.mapping.specs.Decoded.{imageOf};
 ghost use Rattle.delta.specs.Stored.{Leads, Stored};
-ghost use Rattle.sigma.specs.Joined.{JoinedStored, overAttribute, valueOver, AttributesOver};
+ghost use Rattle.sigma.specs.Joined.{JoinedStored, attributeIn, valueOver, AttributesOver};
 ghost use Rattle.sigma.specs.Lifted.{LiftLeads, LiftsLead, liftRow};
 
 // The column at node c over attribute b: its first rows, copied.
-pub fn copy_over(
+fn copy_over(
     s: Schema,
     f: Mapping,
     values: &[u32],
@@ -33,13 +33,13 @@ pub fn copy_over(
     out: &mut [u32],
     place: usize,
 )
-    requires { ⌜ (s .attributes ≤ 16) × (b < 16) × (c < 16) × (512 * overAttribute s f b c + rows ≤ length (now values)) × (place + rows ≤ length (now out)) ⌝ }
+    requires { ⌜ (s .attributes ≤ 16) × (b < 16) × (c < 16) × (512 * attributeIn s f b c + rows ≤ length (now values)) × (place + rows ≤ length (now out)) ⌝ }
     ensures { λ _. ⌜ Stored (valueOver s f (now (values .entry)) b c) rows place (now (out .entry)) (now (out .exit)) ⌝ }
 {
     let home = s.node;
     let image = f.attribute;
     let a = first_over(&home, &image, s.attributes, c as u8, b as u8, 0);
-    copy_column(values, 512 * a, rows, &mut *out, place);
+    copy_column(values, Instance::ROWS * a, rows, &mut *out, place);
 }
 
 // The joined list of attribute b, at node d of T.
@@ -56,7 +56,7 @@ pub fn value_column(
     ensures { λ _. ⌜ JoinedStored (f .node) (run .counts) d (s .graph .nodes) (valueOver s f (now (values .entry)) b) (512 * b) (now (out .entry)) (now (out .exit)) ⌝ }
 {
     let n = s.graph.nodes;
-    let mut place = 512 * b;
+    let mut place = Instance::ROWS * b;
     let mut c = 0;
     while c < n {
         let k = c;
@@ -69,8 +69,8 @@ pub fn value_column(
     }
 }
 
-// The places to which edges lead each of the first rows, where the end's rows begin at first.
-pub fn place_column(
+// For each of the first rows, the place to which edges lead it in the joined list, where the rows of their end begin at first.
+fn place_column(
     links: &[u32],
     image: Image,
     first: usize,
@@ -91,8 +91,8 @@ pub fn place_column(
 }
 
 // The places to which path i leads each of the first rows.
-pub fn lift_rows(
-    p: Paths,
+fn lift_rows(
+    paths: Paths,
     f: Mapping,
     run: Instance,
     links: &[u32],
@@ -101,20 +101,20 @@ pub fn lift_rows(
     out: &mut [u32],
     base: usize,
 )
-    requires { ⌜ LiftLeads p (f .node) (run .counts) (now links) i rows × (base + rows ≤ length (now out)) ⌝ }
-    ensures { λ _. ⌜ Stored (liftRow p (f .node) (run .counts) (now (links .entry)) i) rows base (now (out .entry)) (now (out .exit)) ⌝ }
+    requires { ⌜ LiftLeads paths (f .node) (run .counts) (now links) i rows × (base + rows ≤ length (now out)) ⌝ }
+    ensures { λ _. ⌜ Stored (liftRow paths (f .node) (run .counts) (now (links .entry)) i) rows base (now (out .entry)) (now (out .exit)) ⌝ }
 {
-    let image = path_edges(p, i);
-    let end = index(p.end[i]);
+    let image = path_edges(paths, i);
+    let end = index(paths.end[i]);
     let d = f.node[end];
     let first = rows_before(&f.node, &run.counts, end, d);
     place_column(links, image, first, rows, &mut *out, base);
 }
 
-// The joined list of the links along edge e, from node d of T; its lift at node c is path 16 * e + c of lifts.
+// The joined list of the links along edge e, from node d of T; the number of its lift at node c stands at 16 * e + c in lifts.
 pub fn link_column(
     s: Schema,
-    p: Paths,
+    paths: Paths,
     f: Mapping,
     run: Instance,
     lifts: &[u8],
@@ -123,19 +123,19 @@ pub fn link_column(
     d: u8,
     out: &mut [u32],
 )
-    requires { ⌜ (s .graph .nodes ≤ 16) × Limits s run × (e < 32) × (length (now lifts) ≡ 512) × LiftsLead p (f .node) (run .counts) (now lifts) (now links) (s .graph .nodes) e d × (512 * e + 512 ≤ length (now out)) ⌝ }
-    ensures { λ _. ⌜ JoinedStored (f .node) (run .counts) d (s .graph .nodes) (λ c. liftRow p (f .node) (run .counts) (now (links .entry)) (getD (now (lifts .entry)) (16 * e + c) 0)) (512 * e) (now (out .entry)) (now (out .exit)) ⌝ }
+    requires { ⌜ (s .graph .nodes ≤ 16) × Limits s run × (e < 32) × (length (now lifts) ≡ 512) × LiftsLead paths (f .node) (run .counts) (now lifts) (now links) (s .graph .nodes) e d × (512 * e + 512 ≤ length (now out)) ⌝ }
+    ensures { λ _. ⌜ JoinedStored (f .node) (run .counts) d (s .graph .nodes) (λ c. liftRow paths (f .node) (run .counts) (now (links .entry)) (getD (now (lifts .entry)) (16 * e + c) 0)) (512 * e) (now (out .entry)) (now (out .exit)) ⌝ }
 {
     let n = s.graph.nodes;
-    let mut place = 512 * e;
+    let mut place = Instance::ROWS * e;
     let mut c = 0;
     while c < n {
         let k = c;
         c += 1;
         if f.node[k] == d {
             let rows = wide(run.counts[k]);
-            let i = index(lifts[16 * e + k]);
-            lift_rows(p, f, run, links, i, rows, &mut *out, place);
+            let i = index(lifts[Schema::NODES * e + k]);
+            lift_rows(paths, f, run, links, i, rows, &mut *out, place);
             place += rows;
         }
     }

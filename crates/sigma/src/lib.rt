@@ -25,7 +25,7 @@ pub fn sigma_counts(s: Schema, t: Schema, f: Mapping, run: Instance) -> Instance
 {
     let n = s.graph.nodes;
     let m = t.graph.nodes;
-    let mut counts = [0u32; 16];
+    let mut counts = [0u32; Schema::NODES];
     let mut d = 0;
     while d < m {
         counts[d] = rows_before(&f.node, &run.counts, n, d as u8) as u32;
@@ -38,14 +38,7 @@ pub fn sigma_counts(s: Schema, t: Schema, f: Mapping, run: Instance) -> Instance
 }
 
 // Its values: for each attribute of T the columns over it.
-pub fn sigma_values(
-    s: Schema,
-    t: Schema,
-    f: Mapping,
-    run: Instance,
-    values: &[u32],
-    out: &mut [u32],
-)
+fn sigma_values(s: Schema, t: Schema, f: Mapping, run: Instance, values: &[u32], out: &mut [u32])
     requires { ⌜ (s .graph .nodes ≤ 16) × (s .attributes ≤ 16) × (t .attributes ≤ 16) × Limits s run × (512 * s .attributes ≤ length (now values)) × AllOver s t f × (512 * t .attributes ≤ length (now out)) ⌝ }
     ensures { λ _. ⌜ JoinedColumns (f .node) (run .counts) (t .node) (s .graph .nodes) (t .attributes) (valueOver s f (now (values .entry))) (now (out .entry)) (now (out .exit)) ⌝ }
 {
@@ -59,25 +52,25 @@ pub fn sigma_values(
 }
 
 // Its links: for each edge of T the rows to which its lifts lead.
-pub fn sigma_links(
+fn sigma_links(
     s: Schema,
     t: Schema,
-    sp: Paths,
+    source_paths: Paths,
     f: Mapping,
     run: Instance,
     lifts: &[u8],
     links: &[u32],
     out: &mut [u32],
 )
-    requires { ⌜ (s .graph .nodes ≤ 16) × (t .graph .edges ≤ 32) × Limits s run × (length (now lifts) ≡ 512) × AllLead s t sp f run (now lifts) (now links) × (512 * t .graph .edges ≤ length (now out)) ⌝ }
-    ensures { λ _. ⌜ JoinedColumns (f .node) (run .counts) (t .graph .source) (s .graph .nodes) (t .graph .edges) (λ e c. liftRow sp (f .node) (run .counts) (now (links .entry)) (getD (now (lifts .entry)) (16 * e + c) 0)) (now (out .entry)) (now (out .exit)) ⌝ }
+    requires { ⌜ (s .graph .nodes ≤ 16) × (t .graph .edges ≤ 32) × Limits s run × (length (now lifts) ≡ 512) × AllLead s t «source_paths» f run (now lifts) (now links) × (512 * t .graph .edges ≤ length (now out)) ⌝ }
+    ensures { λ _. ⌜ JoinedColumns (f .node) (run .counts) (t .graph .source) (s .graph .nodes) (t .graph .edges) (λ e c. liftRow «source_paths» (f .node) (run .counts) (now (links .entry)) (getD (now (lifts .entry)) (16 * e + c) 0)) (now (out .entry)) (now (out .exit)) ⌝ }
 {
     let graph = t.graph;
     let n = graph.edges;
     let mut e = 0;
     while e < n {
         let d = graph.source[e];
-        link_column(s, sp, f, run, lifts, links, e, d, &mut *out);
+        link_column(s, source_paths, f, run, lifts, links, e, d, &mut *out);
         e += 1;
     }
 }
@@ -86,8 +79,8 @@ pub fn sigma_links(
 pub fn sigma(
     s: Schema,
     t: Schema,
-    sp: Paths,
-    tp: Paths,
+    source_paths: Paths,
+    target_paths: Paths,
     f: Mapping,
     run: Instance,
     links: &[u32],
@@ -95,12 +88,12 @@ pub fn sigma(
     followed: &mut [u32],
     copied: &mut [u32],
 ) -> Instance
-    requires { ⌜ Pushable s t sp tp f run (now links) (now values) × RoomFor s (now links) (now values) × RoomFor t (now followed) (now copied) ⌝ }
+    requires { ⌜ Pushable s t «source_paths» «target_paths» f run (now links) (now values) × RoomFor s (now links) (now values) × RoomFor t (now followed) (now copied) ⌝ }
     ensures { λ r. ⌜ Pushed s t f run (now (links .entry)) (now (values .entry)) r (now (followed .exit)) (now (copied .exit)) ⌝ }
 {
-    let lifts = edge_lifts(s, t, sp, tp, f);
+    let lifts = edge_lifts(s, t, source_paths, target_paths, f);
     let pushed = sigma_counts(s, t, f, run);
-    sigma_links(s, t, sp, f, run, &lifts, links, &mut *followed);
+    sigma_links(s, t, source_paths, f, run, &lifts, links, &mut *followed);
     sigma_values(s, t, f, run, values, &mut *copied);
     pushed
 }

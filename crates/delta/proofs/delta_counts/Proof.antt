@@ -1,5 +1,5 @@
 -- `delta::delta_counts` meets its contract.
-use mathlib.Core.Path.{_≡_}
+use mathlib.Core.Path.{_≡_, refl}
 use lib.ListN.{length}
 use borrow.Author.Needs.{needs}
 use Rattle.delta.proofs.Pulling.{node-columns, counted}
@@ -21,7 +21,7 @@ count-column-requires c κs =
     (z .pre .0 .source .limits .nodes, node-columns (z .pre .0) (z .pre .1) (node-long z))
 
 returns : tie.Need-returns
-returns c = let z = c .before .before .before .before .before in counted (z .pre .0) (z .pre .1) (c .count-column .ensures)
+returns c = let z = c .before .before .before .before .before in counted (z .pre .0) (z .pre .1) (c .count-column .ensures) refl
 
 pub delta-counts-spec : {M : Type 1} → statement M
 delta-counts-spec =

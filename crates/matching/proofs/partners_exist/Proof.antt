@@ -30,8 +30,8 @@ shared-slice-read-wide c = omega arith
 wide-requires : tie.Need-wide-requires Inv-loop μ-loop
 wide-requires c κs = search needs
 
-partners-below-requires : tie.Need-partners-below-requires Inv-loop μ-loop
-partners-below-requires c κs = rw (c .before .before .table-among .ensures) (c .before .before .before .before .before .before .before .pre .0 .listed (c .before .before .before .before .loop .c) (c .before .before .before .loop-test .taken))
+column-below-requires : tie.Need-column-below-requires Inv-loop μ-loop
+column-below-requires c κs = rw (c .before .before .table-among .ensures) (c .before .before .before .before .before .before .before .pre .0 .listed (c .before .before .before .before .loop .c) (c .before .before .before .loop-test .taken))
 
 add-c : tie.Need-add-c Inv-loop μ-loop
 add-c c = omega arith
@@ -40,10 +40,10 @@ loop-less : tie.Need-loop-less Inv-loop μ-loop
 loop-less c = omega arith
 
 loop-again : tie.Need-loop-again Inv-loop μ-loop
-loop-again c = let r = rw (c .before .before .wide .ensures, c .before .before .before .before .table-among .ensures) at (c .before .partners-below .ensures) in passed-more (c .before .before .before .before .before .before .loop .inv) (c .before .before .before .before .before .loop-test .taken) (sym r ∙ c .if1 .taken)
+loop-again c = let r = rw (c .before .before .wide .ensures, c .before .before .before .before .table-among .ensures) at (c .before .column-below .ensures) in passed-more (c .before .before .before .before .before .before .loop .inv) (c .before .before .before .before .before .loop-test .taken) (sym r ∙ c .if1 .taken)
 
 returns : tie.Need-returns Inv-loop μ-loop
-returns c = let r = rw (c .before .before .wide .ensures, c .before .before .before .before .table-among .ensures) at (c .before .partners-below .ensures) in sym (passed-fail (c .before .before .before .before .before .before .loop .inv) (c .before .before .before .before .before .loop-test .taken) (sym r ∙ c .if1 .left))
+returns c = let r = rw (c .before .before .wide .ensures, c .before .before .before .before .table-among .ensures) at (c .before .column-below .ensures) in sym (passed-fail (c .before .before .before .before .before .before .loop .inv) (c .before .before .before .before .before .loop-test .taken) (sym r ∙ c .if1 .left))
 
 returns-2 : tie.Need-returns-2 Inv-loop μ-loop
 returns-2 c = sym (passed-done (c .before .loop .inv) (c .loop-test .left))
@@ -59,7 +59,7 @@ partners-exist-spec =
     mul-wide
     shared-slice-read-wide
     wide-requires
-    partners-below-requires
+    column-below-requires
     add-c
     loop-less
     loop-again

@@ -37,7 +37,7 @@ returns c =
     let z = c .before .before .before .before .before .before .before .before .before .before .before .before .before .before .before in
     let P = z .pre .0 in
     let C = c .before .before .before .before .before .before .before .before .before .sigma-counts .ensures in
-    pushed (counts-are P C) (links-are P (z .pre .1 .for-links) (c .before .before .before .before .before .before .before .before .before .before .edge-lifts .ensures) C (c .before .before .before .before .before .before .sigma-links .ensures)) (values-are P C (c .before .before .sigma-values .ensures)) (C .counts .long)
+    pushed (counts-are P C) (links-are P (z .pre .1 .for-links) (c .before .before .before .before .before .before .before .before .before .before .edge-lifts .ensures) C (c .before .before .before .before .before .before .sigma-links .ensures)) (values-are P C (c .before .before .sigma-values .ensures)) (C .counts .long) (C .unrefused)
 
 pub sigma-spec : {M : Type 1} → statement M
 sigma-spec =

@@ -45,7 +45,7 @@ loop-again : tie.Need-loop-again Inv-loop μ-loop
 loop-again c = counts-more (c .before .before .before .before .before .before .loop .inv) (omega (arith, c .before .before .before .before .before .before .before .pre .1, c .before .before .before .before .before .loop-test .taken)) (c .rows-before .ensures)
 
 returns : tie.Need-returns Inv-loop μ-loop
-returns c = record { counts = counts-done (c .before .loop .inv) (c .loop-test .left) }
+returns c = record { counts = counts-done (c .before .loop .inv) (c .loop-test .left); unrefused = refl }
 
 pub sigma-counts-spec : {M : Type 1} → statement M
 sigma-counts-spec =

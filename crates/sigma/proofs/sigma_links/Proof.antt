@@ -9,11 +9,11 @@ use Rattle.sigma.proofs.sigma_links.Statement.{statement}
 use Rattle.sigma.proofs.sigma_links.Tie as tie
 
 abbrev Inv-loop : tie.InvT-loop
-Inv-loop s sp f run lifts links out₀ graph n e₀ out e =
-    JoinedColumns (f .node) (run .counts) (graph .source) (s .graph .nodes) e (λ i c. liftRow sp (f .node) (run .counts) links (getD lifts (16 * i + c) 0)) out₀ out
+Inv-loop s source-paths f run lifts links out₀ graph n e₀ out e =
+    JoinedColumns (f .node) (run .counts) (graph .source) (s .graph .nodes) e (λ i c. liftRow source-paths (f .node) (run .counts) links (getD lifts (16 * i + c) 0)) out₀ out
 
 abbrev μ-loop : tie.MeasureT-loop
-μ-loop s sp f run lifts links out₀ graph n e₀ out e = n - e
+μ-loop s source-paths f run lifts links out₀ graph n e₀ out e = n - e
 
 loop-holds : tie.Need-loop-holds Inv-loop μ-loop
 loop-holds c = columns-none _ _ _ _ _ _

@@ -6,13 +6,13 @@ use native.Mathlib.Nat.{le-antisymm}
 use lib.ListN.{length, getD}
 use borrow.Author.Needs.{needs}
 use Rattle.meaning.specs.Lists.{sumOf}
-use Rattle.instance.specs.Decoded.{firstOf}
+use Rattle.schema.specs.Decoded.{frontOf}
 use Rattle.instance.proofs.Columns.{sumOf-more}
 use Rattle.instance.proofs.decode.total.Statement.{statement}
 use Rattle.instance.proofs.decode.total.Tie as tie
 
 abbrev Inv-loop : tie.InvT-loop
-Inv-loop counts n sum₀ i₀ sum i = (i ≤ n) × (sum ≤ 4294967296 * i) × (sum ≡ sumOf (firstOf i counts))
+Inv-loop counts n sum₀ i₀ sum i = (i ≤ n) × (sum ≤ 4294967296 * i) × (sum ≡ sumOf (frontOf i counts))
 
 abbrev μ-loop : tie.MeasureT-loop
 μ-loop counts n sum₀ i₀ sum i = n - i
@@ -47,7 +47,7 @@ loop-again c =
     (omega arith, omega (arith, c .wide .ensures), omega (arith, c .wide .ensures, l .inv .2))
 
 returns : tie.Need-returns Inv-loop μ-loop
-returns c = let l = c .before .loop in l .inv .2 ∙ ap (λ (k : ℕ). sumOf (firstOf k (c .before .before .before .args .counts .now))) (le-antisymm (l .inv .0) (c .loop-test .left))
+returns c = let l = c .before .loop in l .inv .2 ∙ ap (λ (k : ℕ). sumOf (frontOf k (c .before .before .before .args .counts .now))) (le-antisymm (l .inv .0) (c .loop-test .left))
 
 pub total-spec : {M : Type 1} → statement M
 total-spec =

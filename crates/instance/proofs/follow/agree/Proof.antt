@@ -6,13 +6,13 @@ use lib.Dec.{eqb}
 use borrow.Author.Tests.{eq-eqb, ne-eqb}
 use Rattle.theory.specs.Instance.{follow}
 use Rattle.meaning.proofs.Tabulate.{Passed, passed-start, passed-more, passed-fail, passed-done}
-use Rattle.instance.specs.Decoded.{firstOf}
+use Rattle.schema.specs.Decoded.{frontOf}
 use Rattle.instance.specs.Followed.{linkIn}
 use Rattle.instance.proofs.follow.agree.Statement.{statement}
 use Rattle.instance.proofs.follow.agree.Tie as tie
 
 abbrev Inv-loop : tie.InvT-loop
-Inv-loop links left m right n rows x₀ x = Passed (λ y. eqb (follow (linkIn links) (firstOf m left) y) (follow (linkIn links) (firstOf n right) y)) rows (λ y. y) x
+Inv-loop links left m right n rows x₀ x = Passed (λ y. eqb (follow (linkIn links) (frontOf m left) y) (follow (linkIn links) (frontOf n right) y)) rows (λ y. y) x
 
 abbrev μ-loop : tie.MeasureT-loop
 μ-loop links left m right n rows x₀ x = rows - x

@@ -8,8 +8,8 @@ use borrow.Author.Count.{below-none}
 use borrow.Author.Needs.{needs}
 use Rattle.meaning.specs.Lists.{sumOf}
 use Rattle.meaning.proofs.Tabulate.{filled}
+use Rattle.schema.specs.Decoded.{frontOf}
 use Rattle.instance.specs.declared.tables.Table.{Table}
-use Rattle.instance.specs.Decoded.{firstOf}
 use Rattle.instance.specs.Tables.{noTable}
 use Rattle.instance.proofs.Columns.{sumOf-more}
 use Rattle.instance.proofs.TableList.{tableAt, laid}
@@ -20,7 +20,7 @@ use Rattle.instance.proofs.tables.layout.Tie as tie
 record Laying (counts : List ℕ) (n : ℕ) (list : List Table) (first c : ℕ) : Type 0 where
   some : c ≤ n
   few : first ≤ 4294967296 * c
-  so-far : first ≡ sumOf (firstOf c counts)
+  so-far : first ≡ sumOf (frontOf c counts)
   each : (k : ℕ) → k < c → getD list k noTable ≡ tableAt counts k
   long : length list ≡ 16
 

@@ -7,14 +7,14 @@ use lib.ListN.{length}
 use lib.Dec.{eqb}
 use Rattle.meaning.specs.Lists.{filter}
 use Rattle.meaning.proofs.Tabulate.{Passed, passed-start, passed-more}
-use Rattle.mapping.specs.Decoded.{firstOf}
+use Rattle.schema.specs.Decoded.{frontOf}
 use Rattle.mapping.proofs.Viewing.{upto-fail, upto-done}
 use Rattle.mapping.proofs.Columns.{bijective-by}
 use Rattle.mapping.proofs.attributes.is_bijective.Statement.{statement}
 use Rattle.mapping.proofs.attributes.is_bijective.Tie as tie
 
 abbrev Inv-loop : tie.InvT-loop
-Inv-loop image n count b₀ b = Passed (λ x. eqb (length (filter (eqb x) (firstOf n image))) 1) count (λ k. k) b
+Inv-loop image n count b₀ b = Passed (λ x. eqb (length (filter (eqb x) (frontOf n image))) 1) count (λ k. k) b
 
 abbrev μ-loop : tie.MeasureT-loop
 μ-loop image n count b₀ b = count - b

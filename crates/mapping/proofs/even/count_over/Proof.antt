@@ -7,8 +7,8 @@ use borrow.Author.Tests.{eq-eqb, ne-eqb}
 use lib.ListN.{length}
 use Rattle.theory.specs.Numbering.{tabulate}
 use Rattle.meaning.specs.Lists.{filter}
+use Rattle.meaning.proofs.Tabulate.{upto-tabulate}
 use Rattle.mapping.specs.Even.{isOver}
-use Rattle.mapping.proofs.Viewing.{upto-tabulate}
 use Rattle.mapping.proofs.Counting.{count-more, count-skip, count-low}
 use Rattle.mapping.proofs.even.count_over.Statement.{statement}
 use Rattle.mapping.proofs.even.count_over.Tie as tie

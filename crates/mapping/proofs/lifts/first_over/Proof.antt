@@ -4,8 +4,8 @@ use mathlib.Core.Path.{sym, ap, _∙_}
 use native.Mathlib.Omega.{arith}
 use borrow.Author.Tests.{eq-eqb, ne-eqb}
 use Rattle.meaning.specs.Lists.{filter, headOr}
+use Rattle.meaning.proofs.Tabulate.{upto-tabulate}
 use Rattle.mapping.specs.Even.{isOver}
-use Rattle.mapping.proofs.Viewing.{upto-tabulate}
 use Rattle.mapping.proofs.Counting.{Searched, searched-start, searched-more, searched-hit, searched-done}
 use Rattle.mapping.proofs.lifts.first_over.Statement.{statement}
 use Rattle.mapping.proofs.lifts.first_over.Tie as tie

@@ -3,7 +3,7 @@ use mathlib.Core.Path.{sym, ap, _∙_}
 use Rattle.meaning.specs.Lists.{sumOf}
 use Rattle.meaning.specs.Formats.{Instance}
 use Rattle.meaning.specs.Calls.{judgeRaw}
-use Rattle.instance.specs.Decoded.{firstOf}
+use Rattle.schema.specs.Decoded.{frontOf}
 use Rattle.instance.proofs.Rooms.{room-for}
 use Rattle.matching.specs.Compared.{partnersOf}
 use Rattle.migration.proofs.Migrating.{few-rows}
@@ -42,7 +42,7 @@ judge-matching-requires c κs =
     record {
       sound = M .ready .schemas .source;
       limits = M .run-limits;
-      limits′ = record { rows = few-rows (sumOf (firstOf (x .opened .source .graph .nodes) (d .result .counts))) (sym (c .before .before .before .before .before .overfull .ensures) ∙ c .before .before .before .before .if1 .taken); long = d .ensures .long };
+      limits′ = record { rows = few-rows (sumOf (frontOf (x .opened .source .graph .nodes) (d .result .counts))) (sym (c .before .before .before .before .before .overfull .ensures) ∙ c .before .before .before .before .if1 .taken); long = d .ensures .long };
       room = room-for (M .ready .schemas .source) (c .before .before .before .before .before .before .before .before .before .before .before .before .before .before .before .before .before .before .before .before .before .before .pre .1);
       room′ = room-for (M .ready .schemas .source) (search needs);
       links-in = M .run .links-in;

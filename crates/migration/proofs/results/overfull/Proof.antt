@@ -2,7 +2,7 @@
 use native.Mathlib.Omega.{arith}
 use borrow.Author.Tests.{le-leb, lt-leb}
 use Rattle.meaning.specs.Lists.{sumOf}
-use Rattle.instance.specs.Decoded.{firstOf}
+use Rattle.schema.specs.Decoded.{frontOf}
 use borrow.Author.Needs.{needs}
 use Rattle.migration.proofs.results.overfull.Statement.{statement}
 use Rattle.migration.proofs.results.overfull.Tie as tie
@@ -14,10 +14,10 @@ total-requires : tie.Need-total-requires
 total-requires c κs = search needs
 
 returns : tie.Need-returns
-returns c = rw (le-leb (sumOf (firstOf (c .before .before .before .before .before .args .schema .graph .nodes) (c .before .before .before .before .before .args .tables .counts))) 512 (omega (arith, c .before .total .ensures)))
+returns c = rw (le-leb (sumOf (frontOf (c .before .before .before .before .before .args .schema .graph .nodes) (c .before .before .before .before .before .args .tables .counts))) 512 (omega (arith, c .before .total .ensures)))
 
 returns-2 : tie.Need-returns-2
-returns-2 c = rw (lt-leb (sumOf (firstOf (c .before .before .before .before .before .args .schema .graph .nodes) (c .before .before .before .before .before .args .tables .counts))) 512 (omega (arith, c .before .total .ensures)))
+returns-2 c = rw (lt-leb (sumOf (frontOf (c .before .before .before .before .before .args .schema .graph .nodes) (c .before .before .before .before .before .args .tables .counts))) 512 (omega (arith, c .before .total .ensures)))
 
 pub overfull-spec : {M : Type 1} → statement M
 overfull-spec = tie.close (tie.spec slice-aggregate-total total-requires returns returns-2)

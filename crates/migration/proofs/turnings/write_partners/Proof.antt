@@ -1,7 +1,7 @@
 -- `migration::turnings::write_partners` meets its contract.
 use native.Mathlib.Omega.{arith}
 use Rattle.meaning.specs.Formats.{matchingSheet}
-use Rattle.instance.specs.Decoded.{firstOf}
+use Rattle.schema.specs.Decoded.{frontOf}
 use Rattle.instance.proofs.Writing.{matching-length}
 use Rattle.migration.proofs.Trays.{tray-written, tray-small}
 use borrow.Author.Needs.{needs}
@@ -18,10 +18,10 @@ same-length : tie.Need-same-length
 same-length c = search needs
 
 returns : tie.Need-returns
-returns c = let a = c .before .before .before .before .before .before .before .before .args in tray-written (matchingSheet (firstOf (a .n) (a .list .now))) (a .tray .now) (omega (arith, matching-length (a .list .now) (a .n), c .before .before .before .before .before .matching-length .ensures)) (c .before .before .write-matching .ensures)
+returns c = let a = c .before .before .before .before .before .before .before .before .args in tray-written (matchingSheet (frontOf (a .n) (a .list .now))) (a .tray .now) (omega (arith, matching-length (a .list .now) (a .n), c .before .before .before .before .before .matching-length .ensures)) (c .before .before .write-matching .ensures)
 
 returns-2 : tie.Need-returns-2
-returns-2 c = let a = c .before .before .before .before .args in tray-small (matchingSheet (firstOf (a .n) (a .list .now))) (a .tray .now) (omega (arith, matching-length (a .list .now) (a .n), c .before .matching-length .ensures))
+returns-2 c = let a = c .before .before .before .before .args in tray-small (matchingSheet (frontOf (a .n) (a .list .now))) (a .tray .now) (omega (arith, matching-length (a .list .now) (a .n), c .before .matching-length .ensures))
 
 pub write-partners-spec : {M : Type 1} → statement M
 write-partners-spec =

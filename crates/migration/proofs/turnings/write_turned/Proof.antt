@@ -5,7 +5,7 @@ use mathlib.Core.List.{List}
 use native.Mathlib.Omega.{arith}
 use Rattle.meaning.specs.Formats.{matchingSheet}
 use Rattle.meaning.specs.Calls.{written}
-use Rattle.instance.specs.Decoded.{firstOf}
+use Rattle.schema.specs.Decoded.{frontOf}
 use Rattle.migration.specs.Turnable.{turnableOf, turnedList}
 use Rattle.migration.proofs.Trays.{outcome-written, outcome-refused}
 use borrow.Author.Needs.{needs}
@@ -41,7 +41,7 @@ returns c =
     let a = c .before .before .before .before .before .before .before .before .before .before .before .before .before .before .before .before .before .args in
     let t = c .before .before .before .before .before .before .before .before .before .before .turn in
     c .before .before .write-partners .ensures
-    ∙ ap (λ (n : ℕ). written (a .tray .now) (matchingSheet (firstOf n (t .last .1 .1 .1 .0)))) (c .before .before .before .before .total .ensures)
+    ∙ ap (λ (n : ℕ). written (a .tray .now) (matchingSheet (frontOf n (t .last .1 .1 .1 .0)))) (c .before .before .before .before .total .ensures)
     ∙ ap (λ (l : List ℕ). written (a .tray .now) (matchingSheet l)) (t .ensures)
     ∙ outcome-written (a .x .refusal) (matchingSheet (turnedList (a .side) (turnableOf (a .x) (a .t3)))) (a .tray .now) (c .before .before .before .before .before .before .before .before .before .before .before .before .before .if1 .taken)
 

@@ -2,11 +2,12 @@
 use Prim.Native.Nat.{ℕ, _+_, _-_, _*_, _/_, _≤_, _<_}
 use mathlib.Core.List.{List}
 use native.Mathlib.Omega.{arith}
-use Rattle.instance.specs.Decoded.{firstOf, columnOf}
+use Rattle.instance.specs.Decoded.{columnOf}
 use Rattle.pi.specs.declared.links.TableRows.{TableRows}
 use Rattle.pi.proofs.Bisecting.{Bisected, bisected-start, bisected-low, bisected-high, bisected-hit, bisected-done}
 use Rattle.pi.proofs.links.find_row.Statement.{statement}
 use Rattle.pi.proofs.links.find_row.Tie as tie
+use Rattle.schema.specs.Decoded.{frontOf}
 
 abbrev rowAt : List ℕ → TableRows → ℕ → List ℕ
 rowAt rows table y = columnOf rows (64 * (table .first + y)) (table .width)
@@ -15,7 +16,7 @@ middle : (low high : ℕ) → low < high → (low ≤ (low + high) / 2) × ((low
 middle low high h = (omega arith, omega arith)
 
 abbrev Inv-loop : tie.InvT-loop
-Inv-loop rows table wanted low₀ high₀ low high = Bisected (rowAt rows table) (firstOf (table .width) wanted) (table .count) low high
+Inv-loop rows table wanted low₀ high₀ low high = Bisected (rowAt rows table) (frontOf (table .width) wanted) (table .count) low high
 
 abbrev μ-loop : tie.MeasureT-loop
 μ-loop rows table wanted low₀ high₀ low high = high - low
@@ -38,7 +39,7 @@ compare-requires c κs = let p = c .before .before .before .before .pre .0 in (p
 returns : tie.Need-returns Inv-loop μ-loop
 returns c =
     let z = c .before .before .before .before .before .before .args in
-    bisected-hit (rowAt (z .rows .now) (z .table)) (firstOf (z .table .width) (z .wanted .now)) (c .before .before .before .before .loop .inv) (c .before .before .before .before .before .before .pre .1 .each) (middle (c .before .before .before .before .loop .low) (c .before .before .before .before .loop .high) (c .before .before .before .loop-test .taken) .1) (c .before .compare .ensures .equal (c .if1 .taken))
+    bisected-hit (rowAt (z .rows .now) (z .table)) (frontOf (z .table .width) (z .wanted .now)) (c .before .before .before .before .loop .inv) (c .before .before .before .before .before .before .pre .1 .each) (middle (c .before .before .before .before .loop .low) (c .before .before .before .before .loop .high) (c .before .before .before .loop-test .taken) .1) (c .before .compare .ensures .equal (c .if1 .taken))
 
 add-low : tie.Need-add-low Inv-loop μ-loop
 add-low c = omega (arith, c .before .before .before .before .before .before .before .pre .0 .few, c .before .before .before .before .before .loop .inv .some, middle (c .before .before .before .before .before .loop .low) (c .before .before .before .before .before .loop .high) (c .before .before .before .before .loop-test .taken) .1)
@@ -49,7 +50,7 @@ loop-less c = omega (arith, c .before .before .before .before .loop-test .taken,
 loop-again : tie.Need-loop-again Inv-loop μ-loop
 loop-again c =
     let z = c .before .before .before .before .before .before .before .args in
-    bisected-low (rowAt (z .rows .now) (z .table)) (firstOf (z .table .width) (z .wanted .now)) (c .before .before .before .before .before .loop .inv) (c .before .before .before .before .before .before .before .pre .1 .each) (middle (c .before .before .before .before .before .loop .low) (c .before .before .before .before .before .loop .high) (c .before .before .before .before .loop-test .taken) .1) (c .before .before .compare .ensures .before (c .if2 .taken))
+    bisected-low (rowAt (z .rows .now) (z .table)) (frontOf (z .table .width) (z .wanted .now)) (c .before .before .before .before .before .loop .inv) (c .before .before .before .before .before .before .before .pre .1 .each) (middle (c .before .before .before .before .before .loop .low) (c .before .before .before .before .before .loop .high) (c .before .before .before .before .loop-test .taken) .1) (c .before .before .compare .ensures .before (c .if2 .taken))
 
 loop-less-2 : tie.Need-loop-less-2 Inv-loop μ-loop
 loop-less-2 c = omega (arith, c .before .before .before .before .loop-test .taken, middle (c .before .before .before .before .before .loop .low) (c .before .before .before .before .before .loop .high) (c .before .before .before .before .loop-test .taken) .1)
@@ -57,12 +58,12 @@ loop-less-2 c = omega (arith, c .before .before .before .before .loop-test .take
 loop-again-2 : tie.Need-loop-again-2 Inv-loop μ-loop
 loop-again-2 c =
     let z = c .before .before .before .before .before .before .before .args in
-    bisected-high (rowAt (z .rows .now) (z .table)) (firstOf (z .table .width) (z .wanted .now)) (c .before .before .before .before .before .loop .inv) (c .before .before .before .before .before .before .before .pre .1 .each) (middle (c .before .before .before .before .before .loop .low) (c .before .before .before .before .before .loop .high) (c .before .before .before .before .loop-test .taken) .1) (c .before .before .compare .ensures .behind (c .before .if1 .left) (c .if2 .left))
+    bisected-high (rowAt (z .rows .now) (z .table)) (frontOf (z .table .width) (z .wanted .now)) (c .before .before .before .before .before .loop .inv) (c .before .before .before .before .before .before .before .pre .1 .each) (middle (c .before .before .before .before .before .loop .low) (c .before .before .before .before .before .loop .high) (c .before .before .before .before .loop-test .taken) .1) (c .before .before .compare .ensures .behind (c .before .if1 .left) (c .if2 .left))
 
 returns-2 : tie.Need-returns-2 Inv-loop μ-loop
 returns-2 c =
     let z = c .before .before .before .args in
-    bisected-done (rowAt (z .rows .now) (z .table)) (firstOf (z .table .width) (z .wanted .now)) (c .before .loop .inv) (c .loop-test .left)
+    bisected-done (rowAt (z .rows .now) (z .table)) (frontOf (z .table .width) (z .wanted .now)) (c .before .loop .inv) (c .loop-test .left)
 
 pub find-row-spec : {M : Type 1} → statement M
 find-row-spec =
