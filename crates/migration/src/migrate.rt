@@ -14,6 +14,7 @@ use instance::Instance;
 use instance::judge_instance;
 use mapping::attributes::is_bijective;
 use pi::components::Components;
+use pi::families::Listing;
 use pi::gather::components;
 use pi::gather::has_few_components;
 ghost use mathlib.Core.Path.{_≡_};
@@ -336,7 +337,7 @@ fn join_run(
     requires { ⌜ JoinableRun x k (now «run_links») (now «run_values») × Room (now links) (now values) ⌝ }
     ensures { λ r. ⌜ Migrates r (now (links .exit)) (now (values .exit)) (joinedRun (runInputOf (x .opened) (x .run) (now («run_links» .entry)) (now («run_values» .entry)))) ⌝ }
 {
-    let mut rows = [0u16; 32768];
+    let mut rows = [0u16; Listing::NUMBERS];
     let opened = x.opened;
     let target = opened.target;
     let joined = pi::pi(
