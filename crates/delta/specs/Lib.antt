@@ -1,2 +1,3 @@
+-- What the contracts of Delta say: stored columns, and tables pulled back.
 pub mod Stored
 pub mod Pulled

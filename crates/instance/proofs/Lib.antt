@@ -1,3 +1,4 @@
+-- Laws of columns in working arrays, of the tests of an instance, of writing, and what the walks of the table list share.
 pub mod Columns
 pub mod SoundSchema
 pub mod Decoding

@@ -1,3 +1,4 @@
+-- Laws of decoding, images, evenness, lifts and joined rows.
 pub mod Decoding
 pub mod Viewing
 pub mod Fitting

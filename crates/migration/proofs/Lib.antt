@@ -1,3 +1,4 @@
+-- Laws of refusals in their order, of opened sheets and migrated tables, demand 3, and what an export's number says.
 pub mod Refusing
 pub mod Checking
 pub mod Trays

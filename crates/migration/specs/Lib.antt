@@ -1,3 +1,4 @@
+-- What the contracts of the calls say: answers, opened sheets, migrated tables, matched sides, demand 3.
 pub mod Answers
 pub mod Opened
 pub mod Runs

@@ -1,3 +1,4 @@
+-- What the contracts of Pi say: components, rules, families, links, values, and Pi as a whole.
 pub mod Components
 pub mod Given
 pub mod Gathering

@@ -1,3 +1,4 @@
+-- Laws of decoding, of heights, of the table of paths and its walks, and of classes.
 pub mod Decoding
 pub mod GraphEdges
 pub mod Following

@@ -1,3 +1,4 @@
+-- What the contracts of schemas say: decoded structs, judges, heights, the table of paths, classes.
 pub mod Decoded
 pub mod Counted
 pub mod Heights
