@@ -8,10 +8,24 @@ use text::framing::sheet_at;
 ghost use Prim.Native.Nat.{_+_, _≤_, _<_};
 ghost use lib.ListN.{length};
 
+// The checksum's modulus.
+const MODULUS: u64 = 4294967291;
+
+// Every byte of a tray before the call.
+const UNWRITTEN: u8 = 165;
+
+// Room for every tray, whose length is a 16-bit number.
+const TRAY: usize = 65536;
+
+// At most so many bytes are read.
+const INPUT: usize = 393216;
+
+// A checksum with one byte more.
 fn mixed(sum: u64, byte: u8) -> u64 {
-    (sum % 4294967291 * 257 + byte as u64 + 1) % 4294967291
+    (sum % MODULUS * 257 + byte as u64 + 1) % MODULUS
 }
 
+// The checksum of a tray.
 fn checksum(tray: &[u8]) -> u64 {
     let n = tray.len();
     let mut sum = 0;
@@ -29,6 +43,7 @@ fn wide(x: u8) -> usize
     x as usize
 }
 
+// The 16-bit number at a position.
 fn number_at(input: &[u8], at: usize) -> usize
     requires { ⌜ at + 2 ≤ length (now input) ⌝ }
     ensures { λ r. ⌜ r < 65536 ⌝ }
@@ -56,7 +71,7 @@ fn put_answer<'a>(
 // Where a number ends.
 fn after(input: &[u8], at: usize) -> usize
     requires { ⌜ at + 2 ≤ length (now input) ⌝ }
-    ensures { λ r. ⌜ r ≤ length (now (input .entry)) ⌝ }
+    ensures { λ r. ⌜ at < r ⌝ }
 {
     at + 2
 }
@@ -64,7 +79,7 @@ fn after(input: &[u8], at: usize) -> usize
 // Makes the call of the record at a position; gives where the next one stands.
 fn make_call(input: &[u8], at: usize) -> usize
     requires { ⌜ at < length (now input) ⌝ }
-    ensures { λ r. ⌜ r ≤ length (now (input .entry)) ⌝ }
+    ensures { λ r. ⌜ at < r ⌝ }
 {
     let a = sheet_at(input, at + 1);
     let b = sheet_at(input, a.end);
@@ -77,7 +92,7 @@ fn make_call(input: &[u8], at: usize) -> usize
         return input.len();
     }
     let room = number_at(input, last);
-    let mut tray = [165u8; 65536];
+    let mut tray = [UNWRITTEN; TRAY];
     put_answer(
         input[at],
         bytes_of(input, a),
@@ -91,21 +106,17 @@ fn make_call(input: &[u8], at: usize) -> usize
     after(input, last)
 }
 
-// A record has at least 15 bytes, so there are fewer records than bytes.
+// Makes the call of each record.
 fn make_calls(input: &[u8]) {
     let n = input.len();
-    let mut left = n;
     let mut at = 0;
-    while 0 < left {
-        left -= 1;
-        if at < n {
-            at = make_call(input, at);
-        }
+    while at < n {
+        at = make_call(input, at);
     }
 }
 
 fn main() {
-    let mut input = [0u8; 393216];
+    let mut input = [0u8; INPUT];
     let n = io::read_full(0, &mut input);
     make_calls(&input[..n]);
 }

@@ -35,12 +35,13 @@ module _ (input : List ℕ) (at : ℕ) where
   nothing : (k : ℕ) → length input ≤ k → drop k input ≡ []
   nothing k h = drop-of-length-le input h
 
-  pub sheet-none : length input - at < 2 → SheetFound input at (record { start = length input; end = length input })
-  sheet-none h =
+  pub sheet-none : at ≤ length input → length input - at < 2 → SheetFound input at (record { start = length input; end = length input })
+  sheet-none long h =
       let none = nothing (length input) (omega arith) in
       let rest : drop 2 (drop at input) ≡ [] = behind ∙ nothing (at + 2) (omega arith) in
       record {
         lies = record { ordered = omega arith; inside = omega arith };
+        onward = omega arith;
         sheet = rw (none, rest, take-nil (length input - length input), take-nil (announced (drop at input)));
         later = rw (none, rest, drop-nil (announced (drop at input)));
       }
@@ -51,6 +52,7 @@ module _ (input : List ℕ) (at : ℕ) where
       let rest = length-drop (at + 2) input in
       record {
         lies = record { ordered = omega arith; inside = omega arith };
+        onward = omega arith;
         sheet = rw (behind, take-all (length input - (at + 2)) (drop (at + 2) input) (omega arith), take-all (announced (drop at input)) (drop (at + 2) input) (omega arith));
         later = rw (behind, drop-drop (announced (drop at input)) (at + 2) input, nothing (length input) (omega arith), nothing (at + 2 + announced (drop at input)) (omega arith));
       }
@@ -60,6 +62,7 @@ module _ (input : List ℕ) (at : ℕ) where
       let size-is : at + 2 + size - (at + 2) ≡ size = omega arith in
       record {
         lies = record { ordered = omega arith; inside = omega arith };
+        onward = omega arith;
         sheet = rw (behind, size-is, e);
         later = rw (behind, drop-drop (announced (drop at input)) (at + 2) input, e);
       }

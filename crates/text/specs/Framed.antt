@@ -19,6 +19,7 @@ pub record LiesIn (input : List ℕ) (p : Part) : Type 0 where
 -- p is the first sheet of the input from a position on, and later sheets follow it
 pub record SheetFound (input : List ℕ) (at : ℕ) (p : Part) : Type 0 where
   pub lies : LiesIn input p
+  pub onward : at ≤ p .end
   pub sheet : partOf input p ≡ firstSheet (drop at input)
   pub later : drop (p .end) input ≡ laterSheets (drop at input)
 

@@ -23,7 +23,7 @@ fn put_bytes(bytes: &[u8]) {
     }
 }
 
-// Its number in two digits, and its place.
+// A refusal: its number in two digits, and its place.
 fn put_refusal(refusal: Refusal) {
     let n = refusal.number;
     let text = [
@@ -49,46 +49,64 @@ fn put_verdict(verdict: Verdict) {
     }
 }
 
-// A turned list, which fills its tray.
-fn put_written(written: Written, tray: &[u8]) {
+// The first n bytes of a tray, or all that it has.
+fn front<'a>(tray: &'a [u8], n: usize) -> &'a [u8] {
+    if n <= tray.len() {
+        return &tray[..n];
+    }
+    tray
+}
+
+// A turned list, which is the bytes that were written to the tray, or the refusal. Gives the list, or no bytes.
+fn put_written<'a>(written: Written, tray: &'a [u8]) -> &'a [u8] {
     match written {
         Written::Bytes(n) => {
-            put_bytes(tray);
+            let list = front(tray, n);
+            put_bytes(list);
+            io::write_all(1, b"\n");
+            list
         }
         Written::Refused(refusal) => {
             put_refusal(refusal);
+            io::write_all(1, b"\n");
+            front(tray, 0)
         }
     }
-    io::write_all(1, b"\n");
 }
 
 // A list of the pushed side, turned to the raw side and back.
 fn from_pushed(s: &[u8], t: &[u8], f: &[u8], run: &[u8], book: &[u8], list: &[u8]) {
-    let mut turned = [0u8; 6];
-    let mut back = [0u8; 6];
+    let mut turned = [0u8; 8];
+    let mut back = [0u8; 8];
     io::write_all(1, b"pushed");
     put_bytes(list);
     put_verdict(migration::check_pushed(s, t, f, run, book, list));
     io::write_all(1, b"turned");
     let there = migration::pushed_to_raw(s, t, f, run, book, list, &mut turned);
-    put_written(there, &turned);
+    let result = put_written(there, &turned);
+    if result.len() == 0 {
+        return;
+    }
     io::write_all(1, b"back");
-    let again = migration::raw_to_pushed(s, t, f, run, book, &turned, &mut back);
+    let again = migration::raw_to_pushed(s, t, f, run, book, result, &mut back);
     put_written(again, &back);
 }
 
 // A list of the raw side, turned to the pushed side and back.
 fn from_raw(s: &[u8], t: &[u8], f: &[u8], run: &[u8], book: &[u8], list: &[u8]) {
-    let mut turned = [0u8; 6];
-    let mut back = [0u8; 6];
+    let mut turned = [0u8; 8];
+    let mut back = [0u8; 8];
     io::write_all(1, b"raw");
     put_bytes(list);
     put_verdict(migration::check_raw(s, t, f, run, book, list));
     io::write_all(1, b"turned");
     let there = migration::raw_to_pushed(s, t, f, run, book, list, &mut turned);
-    put_written(there, &turned);
+    let result = put_written(there, &turned);
+    if result.len() == 0 {
+        return;
+    }
     io::write_all(1, b"back");
-    let again = migration::pushed_to_raw(s, t, f, run, book, &turned, &mut back);
+    let again = migration::pushed_to_raw(s, t, f, run, book, result, &mut back);
     put_written(again, &back);
 }
 

@@ -1,5 +1,6 @@
 -- `cases::make_call` meets its contract.
 use mathlib.Core.Path.{sym}
+use native.Mathlib.Omega.{arith}
 use lib.ListN.{replicate}
 use lib.Seq.{length-take-le}
 use borrow.Author.Needs.{needs}
@@ -67,7 +68,7 @@ put-answer-requires : tie.Need-put-answer-requires
 put-answer-requires c κs = search needs
 
 returns-2 : tie.Need-returns-2
-returns-2 c = search needs
+returns-2 c = omega (arith, c .before .before .before .before .before .before .before .before .before .before .before .before .before .before .before .before .before .before .sheet-at .ensures .onward, c .before .before .before .before .before .before .before .before .before .before .before .before .before .before .before .before .before .sheet-at2 .ensures .onward, c .before .before .before .before .before .before .before .before .before .before .before .before .before .before .before .before .sheet-at3 .ensures .onward, c .before .before .before .before .before .before .before .before .before .before .before .before .before .before .before .sheet-at4 .ensures .onward, c .before .before .before .before .before .before .before .before .before .before .before .before .before .before .sheet-at5 .ensures .onward, c .before .before .before .before .before .before .before .before .before .before .before .before .before .sheet-at6 .ensures .onward, c .after .ensures)
 
 after-requires : tie.Need-after-requires
 after-requires c κs = search needs

@@ -1,35 +1,29 @@
 -- `cases::make_calls` meets its contract.
+use Prim.Native.Nat.{_-_}
+use mathlib.Core.Path.{_≡_}
 use native.Mathlib.Omega.{arith}
+use lib.ListN.{length}
 use borrow.Author.Needs.{needs}
 use Rattle.cases.proofs.make_calls.Statement.{statement}
 use Rattle.cases.proofs.make_calls.Tie as tie
 
 abbrev Inv-loop : tie.InvT-loop
-Inv-loop input n left₀ at₀ left at = Unit {0}
+Inv-loop input n at₀ at = n ≡ length input
 
 abbrev μ-loop : tie.MeasureT-loop
-μ-loop input n left₀ at₀ left at = left
+μ-loop input n at₀ at = n - at
 
 loop-holds : tie.Need-loop-holds Inv-loop μ-loop
-loop-holds c = tt
-
-sub-left : tie.Need-sub-left Inv-loop μ-loop
-sub-left c = omega arith
+loop-holds c = search needs
 
 make-call-requires : tie.Need-make-call-requires Inv-loop μ-loop
-make-call-requires c κs = omega arith
+make-call-requires c κs = search needs
 
 loop-less : tie.Need-loop-less Inv-loop μ-loop
-loop-less c = omega arith
+loop-less c = search needs
 
 loop-again : tie.Need-loop-again Inv-loop μ-loop
-loop-again c = tt
-
-loop-less-2 : tie.Need-loop-less-2 Inv-loop μ-loop
-loop-less-2 c = omega arith
-
-loop-again-2 : tie.Need-loop-again-2 Inv-loop μ-loop
-loop-again-2 c = tt
+loop-again c = search needs
 
 returns : tie.Need-returns Inv-loop μ-loop
 returns c = search needs
@@ -41,10 +35,7 @@ make-calls-spec =
     Inv-loop
     μ-loop
     loop-holds
-    sub-left
     make-call-requires
     loop-less
     loop-again
-    loop-less-2
-    loop-again-2
     returns)

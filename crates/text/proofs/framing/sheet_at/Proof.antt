@@ -9,7 +9,7 @@ sub-if1 : tie.Need-sub-if1
 sub-if1 c = search needs
 
 returns : tie.Need-returns
-returns c = sheet-none _ _ (c .if1 .taken)
+returns c = sheet-none _ _ (omega arith) (c .if1 .taken)
 
 add-start : tie.Need-add-start
 add-start c = search needs
