@@ -1,16 +1,15 @@
--- A decoded mapping, read by node, edge and attribute.
-use Prim.Native.Nat.{ℕ, zero, suc, _+_, _<_, _≤_}
-use mathlib.Core.Path.{_≡_, refl, sym, ap, _∙_}
-use mathlib.Core.Bool.{Bool, true, false, _&&_}
-use mathlib.Core.List.{List, _∷_}
-use native.Mathlib.Omega.{arith}
+-- A decoded mapping, read by node, edge and attribute; and a loop over all numbers below a bound.
+use Prim.Native.Nat.{ℕ, _<_, _≤_}
+use mathlib.Core.Path.{_≡_, ap, _∙_}
+use mathlib.Core.Bool.{Bool, true, false}
+use mathlib.Core.List.{List}
 use lib.ListN.{length, getD}
 use Rattle.theory.specs.Numbering.{tabulate}
 use Rattle.theory.proofs.Numbering.{tabulate-length, tabulate-getD}
-use Rattle.meaning.specs.Lists.{range, upto, all}
+use Rattle.meaning.specs.Lists.{upto, all}
 use Rattle.meaning.specs.Schema.{Attribute, attributeAt}
 use Rattle.meaning.specs.Views.{nodeImage, edgeImage, attributeImage}
-use Rattle.meaning.proofs.Tabulate.{tabulate-same, Passed, passed-fail, passed-done}
+use Rattle.meaning.proofs.Tabulate.{upto-tabulate, Passed, passed-fail, passed-done}
 use Rattle.schema.specs.declared.Schema.{Schema}
 use Rattle.schema.specs.Decoded.{schemaOf}
 use Rattle.mapping.specs.declared.Mapping.{Mapping}
@@ -37,3 +36,11 @@ module _ (s : Schema) where
 
   pub attribute-is : (a : ℕ) → a < s .attributes → attributeAt (schemaOf s) a ≡ attribute a
   attribute-is a l = tabulate-getD (s .attributes) attribute _ a l
+
+-- ---- a loop that tests all numbers below n
+module _ {f : ℕ → Bool} {n i : ℕ} (u : Passed f n (λ k. k) i) where
+  pub upto-fail : i < n → f i ≡ false → all f (upto n) ≡ false
+  upto-fail l e = ap (all f) (upto-tabulate n) ∙ passed-fail u l e
+
+  pub upto-done : n ≤ i → all f (upto n) ≡ true
+  upto-done l = ap (all f) (upto-tabulate n) ∙ passed-done u l
