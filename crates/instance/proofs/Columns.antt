@@ -1,17 +1,17 @@
 -- Laws of columns: stored in an array, and read one after the other; and sums of rows.
 use Prim.Native.Nat.{ℕ, zero, suc, _+_, _*_, _≤_, _<_}
-use mathlib.Core.Path.{_≡_, refl, sym, ap, ap₂, _∙_}
+use mathlib.Core.Path.{_≡_, refl, ap, _∙_}
 use mathlib.Core.List.{List, [], _∷_, _++_}
 use native.Mathlib.Omega.{arith}
-use native.Mathlib.Nat.{add-zero, mul-suc, mul-add, mul-le-mul-left, not-suc-le-zero, le-trans}
+use native.Mathlib.Nat.{mul-suc, mul-add, mul-le-mul-left, not-suc-le-zero, le-trans}
 use native.Mathlib.Numerals.{add-one}
 use borrow.Author.Count.{below-none, below-more}
 use lib.ListN.{length, getD, set, replicate, length-set}
 use lib.Seq.{getD-set-same, getD-set-other}
 use Rattle.bits.specs.Field as bits
 use Rattle.theory.specs.Numbering.{tabulate}
-use Rattle.meaning.specs.Lists.{range, upto, sumOf}
-use Rattle.meaning.specs.Sheet.{Reader, after, inTurn}
+use Rattle.meaning.specs.Lists.{sumOf}
+use Rattle.meaning.specs.Sheet.{Reader, inTurn}
 use Rattle.meaning.proofs.Tabulate.{tabulate-more, tabulate-same, tabulate-store}
 use Rattle.instance.specs.Decoded.{columnsOf, Stored}
 

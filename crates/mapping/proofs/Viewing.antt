@@ -2,9 +2,7 @@
 use Prim.Native.Nat.{ℕ, _<_, _≤_}
 use mathlib.Core.Path.{_≡_, ap, _∙_}
 use mathlib.Core.Bool.{Bool, true, false}
-use mathlib.Core.List.{List}
 use lib.ListN.{length, getD}
-use Rattle.theory.specs.Numbering.{tabulate}
 use Rattle.theory.proofs.Numbering.{tabulate-length, tabulate-getD}
 use Rattle.meaning.specs.Lists.{upto, all}
 use Rattle.meaning.specs.Schema.{Attribute, attributeAt}

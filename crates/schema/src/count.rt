@@ -4,7 +4,7 @@ use crate::Schema;
 use crate::numbers::index;
 use crate::numbers::wide;
 ghost use mathlib.Core.Path.{_≡_};
-ghost use Prim.Native.Nat.{_≤_, min};
+ghost use Prim.Native.Nat.{min};
 ghost use Rattle.meaning.proofs.PathCounts.{total};
 ghost use Rattle.schema.specs.Counted.{Fit, at, Few, Next, Counted};
 

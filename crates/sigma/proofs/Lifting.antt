@@ -1,13 +1,9 @@
 -- Where a path's end begins in its joined list, and rows followed along a path.
-use Prim.Native.Nat.{ℕ, suc, _+_, _-_, _≤_, _<_}
-use mathlib.Core.Path.{_≡_, sym, ap, ap₂, _∙_}
-use mathlib.Core.List.{List, [], _∷_, _++_, append-assoc, append-nil}
-use native.Mathlib.Omega.{arith}
-use lib.ListN.{length, getD, set, length-set}
-use lib.Seq.{getD-set-same, getD-set-other}
-use Rattle.theory.specs.Numbering.{tabulate}
+use Prim.Native.Nat.{ℕ, _+_, _-_}
+use mathlib.Core.Path.{_≡_, ap, _∙_}
+use mathlib.Core.List.{List}
+use lib.ListN.{getD}
 use Rattle.theory.specs.Instance.{follow}
-use Rattle.meaning.proofs.Tabulate.{tabulate-same}
 use Rattle.instance.specs.Followed.{linkIn}
 use Rattle.mapping.specs.Lifts.{joinedBefore}
 use Rattle.delta.specs.Stored.{Leads, Stored}
