@@ -75,31 +75,7 @@ fn delta_tables(
     }
 }
 
-// Writes Delta of a book.
-fn write_delta(
-    opened: Opened,
-    j: &[u8],
-    book_links: &mut [u32],
-    book_values: &mut [u32],
-    links: &mut [u32],
-    values: &mut [u32],
-    tray: &mut [u8],
-) -> Written
-    requires { ⌜ IsOpened opened × RoomFor (opened .target) (now «book_links») (now «book_values») × RoomFor (opened .source) (now links) (now values) ⌝ }
-    ensures { λ r. ⌜ lentOf r (now (tray .exit)) ≡ inTray (now (tray .entry)) (sheetOf (pulledBook (openedOf opened) (now (j .entry)))) ⌝ }
-{
-    let migrated = delta_tables(
-        opened,
-        j,
-        &mut *book_links,
-        &mut *book_values,
-        &mut *links,
-        &mut *values,
-    );
-    write_migrated(migrated, &*links, &*values, &mut *tray)
-}
-
-// The same for schemas with few columns.
+// Delta of a book, written, for schemas with few columns.
 fn delta_of_few(opened: Opened, j: &[u8], tray: &mut [u8]) -> Written
     requires { ⌜ IsOpened opened × (haveFewColumns opened ≡ true) ⌝ }
     ensures { λ r. ⌜ lentOf r (now (tray .exit)) ≡ inTray (now (tray .entry)) (sheetOf (pulledBook (openedOf opened) (now (j .entry)))) ⌝ }
@@ -108,15 +84,15 @@ fn delta_of_few(opened: Opened, j: &[u8], tray: &mut [u8]) -> Written
     let mut book_values = [0u32; Instance::FEW_VALUES];
     let mut links = [0u32; Instance::FEW_LINKS];
     let mut values = [0u32; Instance::FEW_VALUES];
-    write_delta(
+    let migrated = delta_tables(
         opened,
         j,
         &mut book_links,
         &mut book_values,
         &mut links,
         &mut values,
-        &mut *tray,
-    )
+    );
+    write_migrated(migrated, &links, &values, &mut *tray)
 }
 
 // The same for any schemas.
@@ -128,15 +104,15 @@ fn delta_of_any(opened: Opened, j: &[u8], tray: &mut [u8]) -> Written
     let mut book_values = [0u32; Instance::VALUES];
     let mut links = [0u32; Instance::LINKS];
     let mut values = [0u32; Instance::VALUES];
-    write_delta(
+    let migrated = delta_tables(
         opened,
         j,
         &mut book_links,
         &mut book_values,
         &mut links,
         &mut values,
-        &mut *tray,
-    )
+    );
+    write_migrated(migrated, &links, &values, &mut *tray)
 }
 
 // Delta: writes the instance of s that the mapping f from s to t makes of the instance j of t. Refuses with 1 to 6 at the places of s and t,
@@ -232,31 +208,7 @@ pub(crate) fn sigma_tables(
     }
 }
 
-// Writes Sigma of a run.
-fn write_sigma(
-    opened: Opened,
-    i: &[u8],
-    run_links: &mut [u32],
-    run_values: &mut [u32],
-    links: &mut [u32],
-    values: &mut [u32],
-    tray: &mut [u8],
-) -> Written
-    requires { ⌜ IsOpened opened × RoomFor (opened .source) (now «run_links») (now «run_values») × RoomFor (opened .target) (now links) (now values) ⌝ }
-    ensures { λ r. ⌜ lentOf r (now (tray .exit)) ≡ inTray (now (tray .entry)) (sheetOf (evenlyPushed (runInput (openedOf opened) (now (i .entry))))) ⌝ }
-{
-    let migrated = sigma_tables(
-        opened,
-        i,
-        &mut *run_links,
-        &mut *run_values,
-        &mut *links,
-        &mut *values,
-    );
-    write_migrated(migrated, &*links, &*values, &mut *tray)
-}
-
-// The same for schemas with few columns.
+// Sigma of a run, written, for schemas with few columns.
 fn sigma_of_few(opened: Opened, i: &[u8], tray: &mut [u8]) -> Written
     requires { ⌜ IsOpened opened × (haveFewColumns opened ≡ true) ⌝ }
     ensures { λ r. ⌜ lentOf r (now (tray .exit)) ≡ inTray (now (tray .entry)) (sheetOf (evenlyPushed (runInput (openedOf opened) (now (i .entry))))) ⌝ }
@@ -265,15 +217,15 @@ fn sigma_of_few(opened: Opened, i: &[u8], tray: &mut [u8]) -> Written
     let mut run_values = [0u32; Instance::FEW_VALUES];
     let mut links = [0u32; Instance::FEW_LINKS];
     let mut values = [0u32; Instance::FEW_VALUES];
-    write_sigma(
+    let migrated = sigma_tables(
         opened,
         i,
         &mut run_links,
         &mut run_values,
         &mut links,
         &mut values,
-        &mut *tray,
-    )
+    );
+    write_migrated(migrated, &links, &values, &mut *tray)
 }
 
 // The same for any schemas.
@@ -285,15 +237,15 @@ fn sigma_of_any(opened: Opened, i: &[u8], tray: &mut [u8]) -> Written
     let mut run_values = [0u32; Instance::VALUES];
     let mut links = [0u32; Instance::LINKS];
     let mut values = [0u32; Instance::VALUES];
-    write_sigma(
+    let migrated = sigma_tables(
         opened,
         i,
         &mut run_links,
         &mut run_values,
         &mut links,
         &mut values,
-        &mut *tray,
-    )
+    );
+    write_migrated(migrated, &links, &values, &mut *tray)
 }
 
 // Sigma: writes the instance of t that the even mapping f from s to t makes of the instance i of s. Refuses with 1 to 6 at the places of s and t,

@@ -1,38 +1,52 @@
 -- `migration::migrate::delta_of_any` meets its contract.
+use mathlib.Core.Path.{ap, _∙_}
+use Rattle.meaning.specs.Calls.{Outcome, Migrated, sheetOf, inTray}
 use Rattle.instance.proofs.Rooms.{room-for}
 use borrow.Author.Needs.{needs}
 use Rattle.migration.proofs.migrate.delta_of_any.Statement.{statement}
 use Rattle.migration.proofs.migrate.delta_of_any.Tie as tie
 
-slice-aggregate-write-delta : tie.Need-slice-aggregate-write-delta
-slice-aggregate-write-delta c = search needs
+slice-aggregate-delta-tables : tie.Need-slice-aggregate-delta-tables
+slice-aggregate-delta-tables c = search needs
 
-slice-aggregate-write-delta-2 : tie.Need-slice-aggregate-write-delta-2
-slice-aggregate-write-delta-2 c = search needs
+slice-aggregate-delta-tables-2 : tie.Need-slice-aggregate-delta-tables-2
+slice-aggregate-delta-tables-2 c = search needs
 
-slice-aggregate-write-delta-3 : tie.Need-slice-aggregate-write-delta-3
-slice-aggregate-write-delta-3 c = search needs
+slice-aggregate-delta-tables-3 : tie.Need-slice-aggregate-delta-tables-3
+slice-aggregate-delta-tables-3 c = search needs
 
-slice-aggregate-write-delta-4 : tie.Need-slice-aggregate-write-delta-4
-slice-aggregate-write-delta-4 c = search needs
+slice-aggregate-delta-tables-4 : tie.Need-slice-aggregate-delta-tables-4
+slice-aggregate-delta-tables-4 c = search needs
 
-write-delta-requires : tie.Need-write-delta-requires
-write-delta-requires c κs = let z = c .before .before .before .before .before .before .before .pre in (z, room-for (z .schemas .target) (search needs), room-for (z .schemas .source) (search needs))
+delta-tables-requires : tie.Need-delta-tables-requires
+delta-tables-requires c κs = let z = c .before .before .before .before .before .before .pre in (z, room-for (z .schemas .target) (search needs), room-for (z .schemas .source) (search needs))
+
+slice-aggregate-write-migrated : tie.Need-slice-aggregate-write-migrated
+slice-aggregate-write-migrated c = search needs
+
+slice-aggregate-write-migrated-2 : tie.Need-slice-aggregate-write-migrated-2
+slice-aggregate-write-migrated-2 c = search needs
+
+write-migrated-requires : tie.Need-write-migrated-requires
+write-migrated-requires c κs = search needs
 
 same-length : tie.Need-same-length
 same-length c = search needs
 
 returns : tie.Need-returns
-returns c = search needs
+returns c = c .before .before .write-migrated .ensures ∙ ap (λ (o : Outcome Migrated). inTray (c .before .before .before .before .before .before .before .before .before .before .before .before .before .before .before .before .before .args .tray .now) (sheetOf o)) (c .before .before .before .before .before .before .before .before .before .before .delta-tables .ensures .says)
 
 pub delta-of-any-spec : {M : Type 1} → statement M
 delta-of-any-spec =
     tie.close
     (tie.spec
-    slice-aggregate-write-delta
-    slice-aggregate-write-delta-2
-    slice-aggregate-write-delta-3
-    slice-aggregate-write-delta-4
-    write-delta-requires
+    slice-aggregate-delta-tables
+    slice-aggregate-delta-tables-2
+    slice-aggregate-delta-tables-3
+    slice-aggregate-delta-tables-4
+    delta-tables-requires
+    slice-aggregate-write-migrated
+    slice-aggregate-write-migrated-2
+    write-migrated-requires
     same-length
     returns)
