@@ -1,4 +1,4 @@
-// The sheets of S, T and a mapping, which every migration opens first.
+// The sheets of S, T and a mapping, which every call along a mapping opens first.
 use crate::Refusal;
 use instance::has_few_columns;
 use mapping::Mapping;
@@ -65,12 +65,13 @@ pub(crate) fn uneven(opened: Opened) -> u8
     requires { ⌜ Ready opened ⌝ }
     ensures { λ r. ⌜ r ≡ cond (even (schemaOf (opened .source)) (schemaOf (opened .target)) (mappingOf (opened .source) (opened .mapping))) 0 12 ⌝ }
 {
-    let source = opened.source;
-    let target = opened.target;
-    let source_paths = opened.source_paths;
-    let target_paths = opened.target_paths;
-    let mapping = opened.mapping;
-    if is_even(source, target, source_paths, target_paths, mapping) {
+    if is_even(
+        opened.source,
+        opened.target,
+        opened.source_paths,
+        opened.target_paths,
+        opened.mapping,
+    ) {
         return 0;
     }
     12

@@ -8,10 +8,10 @@ is-even-requires : tie.Need-is-even-requires
 is-even-requires c κs = search needs
 
 returns : tie.Need-returns
-returns c = let o = c .before .before .before .before .before .before .before .args .opened in rw (sym (c .before .is-even .ensures) ∙ c .if1 .taken)
+returns c = rw (sym (c .before .is-even .ensures) ∙ c .if1 .taken)
 
 returns-2 : tie.Need-returns-2
-returns-2 c = let o = c .before .before .before .before .before .before .before .args .opened in rw (sym (c .before .is-even .ensures) ∙ c .if1 .left)
+returns-2 c = rw (sym (c .before .is-even .ensures) ∙ c .if1 .left)
 
 pub uneven-spec : {M : Type 1} → statement M
 uneven-spec = tie.close (tie.spec is-even-requires returns returns-2)

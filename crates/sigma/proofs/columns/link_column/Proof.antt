@@ -74,7 +74,7 @@ loop-again c =
     let l = c .before .before .before .before .before .before .before .before .before .before .loop-test .taken in
     let i = c .before .before .before .before .before .before .before .before .if1 .taken in
     let r = c .before .before .before .before .before .before .wide .ensures in
-    (omega (arith, l), ap (λ (n : ℕ). n + c .before .before .before .before .before .before .wide .result) (v .1) ∙ joined-next (c .before .before .before .before .before .before .before .before .before .before .before .before .before .before .before .args .t3 .node) (c .before .before .before .before .before .before .before .before .before .before .before .before .before .before .before .args .t4 .counts) (c .before .before .before .before .before .before .before .before .before .before .before .before .before .before .before .args .d) (c .before .before .before .before .before .before .before .before .before .before .before .loop .c) (512 * c .before .before .before .before .before .before .before .before .before .before .before .before .before .before .before .args .e) (c .before .before .before .before .before .before .wide .result) r i, joined-more (v .2) i (stored-at r (v .1) (stored-path (c .before .before .before .before .before .before .before .before .before .before .before .before .before .before .before .args .p) (c .before .before .before .before .before .before .before .before .before .before .before .before .before .before .before .args .t3 .node) (c .before .before .before .before .before .before .before .before .before .before .before .before .before .before .before .args .t4 .counts) (c .before .before .before .before .before .before .before .before .before .before .before .before .before .before .before .args .links .now) (c .before .before .before .before .index .ensures .0) (c .before .before .lift-rows .ensures))))
+    (omega (arith, l), ap (λ (n : ℕ). n + c .before .before .before .before .before .before .wide .result) (v .1) ∙ joined-next (c .before .before .before .before .before .before .before .before .before .before .before .before .before .before .before .args .t3 .node) (c .before .before .before .before .before .before .before .before .before .before .before .before .before .before .before .args .t4 .counts) (c .before .before .before .before .before .before .before .before .before .before .before .before .before .before .before .args .d) (c .before .before .before .before .before .before .before .before .before .before .before .loop .c) (512 * c .before .before .before .before .before .before .before .before .before .before .before .before .before .before .before .args .e) (c .before .before .before .before .before .before .wide .result) r i, joined-more (v .2) i (stored-at r (v .1) (stored-path (c .before .before .before .before .before .before .before .before .before .before .before .before .before .before .before .args .paths) (c .before .before .before .before .before .before .before .before .before .before .before .before .before .before .before .args .t3 .node) (c .before .before .before .before .before .before .before .before .before .before .before .before .before .before .before .args .t4 .counts) (c .before .before .before .before .before .before .before .before .before .before .before .before .before .before .before .args .links .now) (c .before .before .before .before .index .ensures .0) (c .before .before .lift-rows .ensures))))
 
 loop-less-2 : tie.Need-loop-less-2 Inv-loop μ-loop
 loop-less-2 c = omega (arith, c .before .before .loop-test .taken)
