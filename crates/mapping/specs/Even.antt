@@ -26,13 +26,13 @@ abbrev pub hasLiftAt : List ℕ → List ℕ → List ℕ → ℕ → ℕ → Bo
 hasLiftAt start class lifts d k = cond (eqb (getD start k 0) d) (not (eqb (getD lifts (getD class k 0) 0) 256)) true
 
 -- each path of T from d has one lift at c
-abbrev pub eachHasOneLift : Paths → Paths → List ℕ → ℕ → ℕ → Bool
-eachHasOneLift source-paths target-paths over c d =
-    all (uniqueAt (source-paths .start) (source-paths .class) over (liftClasses (source-paths .start) (source-paths .class) over c (source-paths .count)) c) (upto (source-paths .count)) &&
-    all (hasLiftAt (target-paths .start) (target-paths .class) (liftClasses (source-paths .start) (source-paths .class) over c (source-paths .count)) d) (upto (target-paths .count))
+abbrev pub eachHasOneLift : List ℕ → List ℕ → List ℕ → ℕ → List ℕ → List ℕ → ℕ → ℕ → ℕ → Bool
+eachHasOneLift start class over n target-start target-class m c d =
+    all (uniqueAt start class over (liftClasses start class over c n) c) (upto n) && all (hasLiftAt target-start target-class (liftClasses start class over c n) d) (upto m)
 
 abbrev pub evenPathsAt : Paths → Paths → List ℕ → List ℕ → ℕ → Bool
-evenPathsAt source-paths target-paths over node c = eachHasOneLift source-paths target-paths over c (getD node c 0)
+evenPathsAt source-paths target-paths over node c =
+    eachHasOneLift (source-paths .start) (source-paths .class) over (source-paths .count) (target-paths .start) (target-paths .class) (target-paths .count) c (getD node c 0)
 
 -- ---- attributes
 

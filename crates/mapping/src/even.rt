@@ -117,39 +117,24 @@ fn each_has_lift<'a>(
     true
 }
 
-// Whether each path of T from d has one lift at c; over has the class of the image of each path.
-fn each_has_one_lift(
-    source_paths: Paths,
-    target_paths: Paths,
-    over: &[u8; Mapping::PATHS],
+// Whether each of m paths of T from d has one lift at c among n paths of S; over has the class of the image of each of these.
+fn each_has_one_lift<'a, 'b>(
+    start: &'a [u8; Mapping::PATHS],
+    class: &'a [u8; Mapping::PATHS],
+    over: &'a [u8; Mapping::PATHS],
+    n: usize,
+    target_start: &'b [u8; Mapping::PATHS],
+    target_class: &'b [u8; Mapping::PATHS],
+    m: usize,
     c: u8,
     d: u8,
 ) -> bool
-    requires { ⌜ («source_paths» .count ≤ 256) × («target_paths» .count ≤ 256) ⌝ }
-    ensures { λ r. ⌜ r ≡ eachHasOneLift «source_paths» «target_paths» (now (over .entry)) c d ⌝ }
+    requires { ⌜ (n ≤ 256) × (m ≤ 256) ⌝ }
+    ensures { λ r. ⌜ r ≡ eachHasOneLift (now (start .entry)) (now (class .entry)) (now (over .entry)) n (now («target_start» .entry)) (now («target_class» .entry)) m c d ⌝ }
 {
-    let lifts = lift_classes(
-        &source_paths.start,
-        &source_paths.class,
-        over,
-        source_paths.count,
-        c,
-    );
-    if lifts_unique(
-        &source_paths.start,
-        &source_paths.class,
-        over,
-        &lifts,
-        source_paths.count,
-        c,
-    ) {
-        return each_has_lift(
-            &target_paths.start,
-            &target_paths.class,
-            &lifts,
-            target_paths.count,
-            d,
-        );
+    let lifts = lift_classes(start, class, over, n, c);
+    if lifts_unique(start, class, over, &lifts, n, c) {
+        return each_has_lift(target_start, target_class, &lifts, m, d);
     }
     false
 }
@@ -167,7 +152,17 @@ fn paths_even<'a>(
 {
     let mut c = 0;
     while c < nodes {
-        if each_has_one_lift(source_paths, target_paths, over, c as u8, node[c]) {
+        if each_has_one_lift(
+            &source_paths.start,
+            &source_paths.class,
+            over,
+            source_paths.count,
+            &target_paths.start,
+            &target_paths.class,
+            target_paths.count,
+            c as u8,
+            node[c],
+        ) {
             c += 1;
         } else {
             return false;

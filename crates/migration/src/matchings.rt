@@ -166,6 +166,7 @@ pub enum Side {
     Raw,
 }
 
+// The matching sheet of one side, judged; where it is a matching, its partners stand in list.
 fn judge_side(
     side: Side,
     x: Sides,

@@ -14,10 +14,10 @@ each-has-lift-requires : tie.Need-each-has-lift-requires
 each-has-lift-requires c κs = search needs
 
 returns : tie.Need-returns
-returns c = rw (← c .before .before .before .before .before .before .before .before .before .before .before .lift-classes .ensures, sym (c .before .before .before .before .before .before .lifts-unique .ensures) ∙ c .before .before .before .before .before .if1 .taken) (c .each-has-lift .ensures)
+returns c = rw (← c .before .before .before .before .before .lift-classes .ensures, sym (c .before .before .before .lifts-unique .ensures) ∙ c .before .before .if1 .taken) (c .each-has-lift .ensures)
 
 returns-2 : tie.Need-returns-2
-returns-2 c = rw (← c .before .before .before .before .before .before .lift-classes .ensures, sym (c .before .lifts-unique .ensures) ∙ c .if1 .left)
+returns-2 c = rw (← c .before .before .before .lift-classes .ensures, sym (c .before .lifts-unique .ensures) ∙ c .if1 .left)
 
 pub each-has-one-lift-spec : {M : Type 1} → statement M
 each-has-one-lift-spec =
