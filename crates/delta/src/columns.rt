@@ -29,10 +29,11 @@ pub fn follow_column(links: &[u32], image: Image, rows: usize, out: &mut [u32], 
     requires { ⌜ (image .length ≤ 15) × Leads (now links) (imageOf image) rows × (base + rows ≤ length (now out)) ⌝ }
     ensures { λ _. ⌜ Stored (theory.follow (linkIn (now (links .entry))) (imageOf image)) rows base (now (out .entry)) (now (out .exit)) ⌝ }
 {
+    let n = image.length as usize;
     let edges = image.edges;
     let mut x = 0;
     while x < rows {
-        out[base + x] = follow(links, &edges, image.length, x) as u32;
+        out[base + x] = follow(links, &edges, n, x) as u32;
         x += 1;
     }
 }

@@ -22,7 +22,6 @@ use Rattle.schema.specs.Judged.{Sound}
 use Rattle.instance.specs.declared.Instance as declared
 use Rattle.instance.specs.declared.decode.ColumnsRead.{ColumnsRead}
 use Rattle.instance.specs.Decoded.{countsIn, rowsOf, tablesOf, readColumns, emptyInstance, Stored, Says, Columns, ColumnsTaken}
-use Rattle.instance.specs.Matched.{readPartners}
 use Rattle.instance.proofs.SoundSchema.{source-in, target-in, home-in}
 use Rattle.instance.proofs.Columns.{inTurn-same, sumOf-none, sumOf-part, none-stands}
 
@@ -96,16 +95,3 @@ module _ (t : Schema) (A : Sound t) where
 
         pub tables-read : (i : declared.Instance) → i .counts ≡ counts → b .cut ≡ false → bits.tailOk s (b .next) ≡ true → tables ≡ reads (tablesOf t i links values) (b .next)
         tables-read i g e f = rw (links-columns ∙ sym (u .says), h, values-columns (a .next) ∙ sym (v .says), e, f, g)
-
--- ---- a matching sheet
-module _ (s : List ℕ) (n : ℕ) where
-  pub partners-cut : 8 * length s < 9 * n → readPartners n s 0 ≡ fails 1
-  partners-cut h = rw (fixed-times n (fixed-field 9) .cut s 0 (omega arith) (omega arith))
-
-  pub partners-tail : 9 * n ≤ 8 * length s → bits.tailOk s (9 * n) ≡ false → readPartners n s 0 ≡ fails 2
-  partners-tail h e = rw (fixed-times n (fixed-field 9) .here s 0 (omega arith), zero-add (9 * n), e)
-
-  pub partners-read : {l r : List ℕ} → Stored s 0 9 n 0 l r → 9 * n ≤ 8 * length s → bits.tailOk s (9 * n) ≡ true → readPartners n s 0 ≡ reads (frontOf n r) (9 * n)
-  partners-read {r = r} u h e =
-      let f : frontOf n r ≡ tabulate n (λ i. bits.field s (0 + 9 * i) 9) = tabulate-same n (λ i l. ap (λ (k : ℕ). getD r k 0) (sym (zero-add i)) ∙ u .each i l) in
-      rw (fixed-times n (fixed-field 9) .here s 0 (omega arith), zero-add (9 * n), e, f)

@@ -1,4 +1,4 @@
--- Laws of columns in working arrays, of the tests of an instance, of writing, and what the walks of the table list share.
+-- Laws of columns in working arrays, of the tests of an instance, and what the walks of the table list share.
 pub mod Columns
 pub mod SoundSchema
 pub mod Decoding
@@ -6,6 +6,5 @@ pub mod Following
 pub mod Walking
 pub mod TableList
 pub mod Judging
-pub mod Writing
 pub mod Lent
 pub mod Rooms

@@ -1,7 +1,5 @@
--- What the contracts of instances say: working arrays, judges, tables, written sheets, matching sheets.
+-- What the contracts of instances say: working arrays, judges, tables.
 pub mod Decoded
 pub mod Tested
 pub mod Followed
 pub mod Tables
-pub mod Written
-pub mod Matched

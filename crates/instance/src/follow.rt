@@ -51,7 +51,14 @@ fn paths_agree(links: &[u32], a: Path, b: Path, rows: usize) -> bool
 {
     let left = a.edges;
     let right = b.edges;
-    agree(links, &left, a.length, &right, b.length, rows)
+    agree(
+        links,
+        &left,
+        a.length as usize,
+        &right,
+        b.length as usize,
+        rows,
+    )
 }
 
 // Refusal 11 (bent row).

@@ -1,9 +1,7 @@
 // Instances: the judge of an instance sheet, and what stands in its working arrays.
 pub mod decode;
-pub mod encode;
 pub mod follow;
 pub mod kinds;
-pub mod matching;
 pub mod range;
 pub mod tables;
 

@@ -7,14 +7,14 @@ use lib.ListN.{length, getD}
 use Rattle.agreement.proofs.Paths.{WellFormed}
 use Rattle.agreement.proofs.Mappings.{Fits}
 use Rattle.schema.specs.declared.Schema.{Schema}
-use Rattle.schema.specs.declared.Paths.{Paths}
+use Rattle.paths.specs.declared.Paths.{Paths}
 use Rattle.schema.specs.Decoded.{graphOf, schemaOf}
 use Rattle.schema.specs.Judged.{Sound}
-use Rattle.schema.specs.PathNumbers.{parentOf, lastOf}
-use Rattle.schema.specs.Table.{Filled}
-use Rattle.schema.specs.PathWalks.{walkFrom, WalkIn}
+use Rattle.paths.specs.PathNumbers.{parentOf, lastOf}
+use Rattle.paths.specs.Table.{Filled}
+use Rattle.paths.specs.PathWalks.{walkFrom, WalkIn}
 use Rattle.schema.proofs.GraphEdges.{edges-count}
-use Rattle.schema.proofs.EquationPairs.{table-index}
+use Rattle.paths.proofs.EquationPairs.{table-index}
 use Rattle.mapping.specs.declared.Mapping.{Mapping}
 use Rattle.mapping.specs.Decoded.{imageOf, noImage, mappingOf}
 use Rattle.mapping.specs.Judged.{Imageable, imageNumber}

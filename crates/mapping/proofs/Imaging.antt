@@ -18,12 +18,12 @@ use Rattle.agreement.proofs.Mappings.{Fits, carries}
 use Rattle.agreement.proofs.Paths.{WellFormed, allPaths-each, pathCount, numberOf, pathAt, number-in, number-path, number-at, pathAt-in}
 use Rattle.schema.specs.declared.Schema as declared
 use Rattle.schema.specs.Decoded as schemas
-use Rattle.schema.specs.PathNumbers.{parentOf, lastOf, endOf}
-use Rattle.schema.specs.Table.{Index}
-use Rattle.schema.specs.PathWalks.{walkFrom, WalkIn}
-use Rattle.schema.proofs.PathNumbers.{trivial-at, trivial-count}
-use Rattle.schema.proofs.PathParents.{parents}
-use Rattle.schema.proofs.PathWalks.{walk-reaches}
+use Rattle.paths.specs.PathNumbers.{parentOf, lastOf, endOf}
+use Rattle.paths.specs.Table.{Index}
+use Rattle.paths.specs.PathWalks.{walkFrom, WalkIn}
+use Rattle.paths.proofs.PathNumbers.{trivial-at, trivial-count}
+use Rattle.paths.proofs.PathParents.{parents}
+use Rattle.paths.proofs.PathWalks.{walk-reaches}
 use Rattle.mapping.specs.declared.Mapping as declaredMapping
 use Rattle.mapping.specs.Decoded.{mappingOf}
 use Rattle.mapping.specs.Judged.{imageNumber}

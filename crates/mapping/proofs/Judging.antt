@@ -5,7 +5,7 @@ use borrow.Author.Tests.{ne-eqb, eq-eqb}
 use Rattle.meaning.specs.Sheet.{Judged, faulty, sound}
 use Rattle.meaning.specs.Formats as formats
 use Rattle.schema.specs.declared.Schema.{Schema}
-use Rattle.schema.specs.declared.Paths.{Paths}
+use Rattle.paths.specs.declared.Paths.{Paths}
 use Rattle.mapping.specs.declared.Mapping.{Mapping}
 use Rattle.mapping.specs.Decoded.{emptyMapping, mappingOf, Decoded}
 use Rattle.mapping.specs.Judged.{Says}

@@ -1,4 +1,4 @@
--- Laws of decoding, images, evenness, lifts and joined rows.
+-- Laws of decoding, images and the edges of a path.
 pub mod Decoding
 pub mod Viewing
 pub mod Fitting
@@ -6,11 +6,5 @@ pub mod Imaging
 pub mod ImageTable
 pub mod Sides
 pub mod Judging
-pub mod Lifting
-pub mod EvenPaths
 pub mod Counting
-pub mod Columns
-pub mod EvenColumns
-pub mod LiftPaths
-pub mod JoinedRows
 pub mod PathEdges

@@ -12,11 +12,11 @@ use Rattle.theory.specs.Numbering.{tabulate}
 use Rattle.meaning.specs.Schema.{Graph, Path, hasLoop}
 use Rattle.meaning.proofs.Tabulate.{tabulate-same}
 use Rattle.agreement.proofs.Paths.{pathCount, pathAt}
-use Rattle.schema.specs.declared.Paths.{Paths}
-use Rattle.schema.specs.Table.{IsTable}
-use Rattle.schema.specs.PathNumbers.{lengthOf, parentOf, lastOf}
-use Rattle.schema.proofs.PathNumbers.{trivial-at}
-use Rattle.schema.proofs.PathParents.{parents}
+use Rattle.paths.specs.declared.Paths.{Paths}
+use Rattle.paths.specs.Table.{IsTable}
+use Rattle.paths.specs.PathNumbers.{lengthOf, parentOf, lastOf}
+use Rattle.paths.proofs.PathNumbers.{trivial-at}
+use Rattle.paths.proofs.PathParents.{parents}
 use Rattle.mapping.specs.PathEdges.{edgesBack, pathEdges}
 
 -- of the n edges of path i those from k on stand in their places, and path x has the first k

@@ -15,12 +15,12 @@ use Rattle.meaning.proofs.Tabulate.{and-both, all-at, all-same}
 use Rattle.agreement.proofs.Paths.{pathCount, numberOf, pathAt, number-in, number-path, path-iff, allPaths-each}
 use Rattle.schema.specs.declared.Schema.{Schema}
 use Rattle.schema.specs.declared.Path as declared
-use Rattle.schema.specs.declared.Paths.{Paths}
+use Rattle.paths.specs.declared.Paths.{Paths}
 use Rattle.schema.specs.Decoded.{graphOf, pathOf, equationOf, noPath, schemaOf}
 use Rattle.schema.specs.Judged.{Sound, SoundPath}
-use Rattle.schema.specs.Table.{Filled, IsTable}
-use Rattle.schema.specs.PathWalks.{walkFrom, WalkIn}
-use Rattle.schema.proofs.EquationPairs.{path-numbered}
+use Rattle.paths.specs.Table.{Filled, IsTable}
+use Rattle.paths.specs.PathWalks.{walkFrom, WalkIn}
+use Rattle.paths.proofs.EquationPairs.{path-numbered}
 use Rattle.mapping.specs.declared.Mapping.{Mapping}
 use Rattle.mapping.specs.Decoded.{mappingOf}
 use Rattle.mapping.specs.Judged.{Imageable, imageNumber, sideClass}

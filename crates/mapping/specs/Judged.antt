@@ -11,11 +11,11 @@ use Rattle.meaning.specs.Sheet.{Judged, sound}
 use Rattle.meaning.specs.Judge.{_>>=_, ensure, imagesFit, keepsEquations}
 use Rattle.agreement.proofs.Paths.{numberOf, pathAt}
 use Rattle.schema.specs.declared.Schema.{Schema}
-use Rattle.schema.specs.declared.Paths.{Paths}
+use Rattle.paths.specs.declared.Paths.{Paths}
 use Rattle.schema.specs.Decoded.{schemaOf}
 use Rattle.schema.specs.Judged as schemas
-use Rattle.schema.specs.Table.{Filled}
-use Rattle.schema.specs.Classes.{IsPaths}
+use Rattle.paths.specs.Table.{Filled}
+use Rattle.paths.specs.Classes.{IsPaths}
 use Rattle.mapping.specs.declared.Mapping.{Mapping}
 use Rattle.mapping.specs.Decoded.{mappingOf, judgedMapping, Short}
 

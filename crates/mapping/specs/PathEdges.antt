@@ -3,7 +3,7 @@ use Prim.Native.Nat.{ℕ, zero, suc, _≤_}
 use mathlib.Core.Path.{_≡_}
 use mathlib.Core.List.{List, [], _∷_, _++_}
 use lib.ListN.{getD}
-use Rattle.schema.specs.declared.Paths.{Paths}
+use Rattle.paths.specs.declared.Paths.{Paths}
 use Rattle.mapping.specs.declared.Image.{Image}
 use Rattle.mapping.specs.Decoded.{imageOf}
 

@@ -31,7 +31,8 @@ fn read_image(sheet: &[u8], at: usize) -> ImageRead
             image: none,
         };
     }
-    let n = small(sheet, at, 4) as usize;
+    let length = small(sheet, at, 4);
+    let n = length as usize;
     if lacks_at(sheet, at + 4, 5 * n) {
         return ImageRead {
             cut: true,
@@ -41,7 +42,7 @@ fn read_image(sheet: &[u8], at: usize) -> ImageRead
     }
     let edges = column(sheet, at + 4, 5, 5, n);
     let image = Image {
-        length: n,
+        length: length,
         edges: edges,
     };
     ImageRead {

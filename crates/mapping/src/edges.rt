@@ -1,8 +1,8 @@
 // The edges of a path, by its number in a table of paths.
 use crate::Image;
 use crate::images::index;
+use paths::Paths;
 use schema::Path;
-use schema::Paths;
 ghost use Prim.Native.Nat.{_≤_, _<_};
 ghost use lib.ListN.{getD};
 ghost use Rattle.mapping.specs.PathEdges.{EdgesTaken};
@@ -21,8 +21,9 @@ pub fn path_edges(paths: Paths, i: usize) -> Image
         edges[k] = paths.last[x];
         x = index(paths.parent[x]);
     }
+    let length = n as u8;
     Image {
-        length: n,
+        length: length,
         edges: edges,
     }
 }

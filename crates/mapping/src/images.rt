@@ -1,10 +1,10 @@
 // The image of every path of S, as its number among the paths of T; and refusal 8: whether the sides of each equation have equal images.
 use crate::Mapping;
+use paths::Paths;
+use paths::walk::walk;
 use schema::Path;
-use schema::Paths;
 use schema::Schema;
 use schema::numbers::wide;
-use schema::walk::walk;
 ghost use mathlib.Core.Path.{_≡_};
 ghost use Prim.Native.Nat.{_<_, _≤_};
 ghost use lib.Dec.{eqb};
@@ -12,8 +12,8 @@ ghost use Rattle.meaning.specs.Lists.{all};
 ghost use Rattle.agreement.proofs.Paths.{numberOf};
 ghost use Rattle.schema.specs.Decoded.{graphOf, pathOf, schemaOf};
 ghost use Rattle.schema.specs.Judged.{Sound};
-ghost use Rattle.schema.specs.Table.{Filled, IsTable};
-ghost use Rattle.schema.specs.PathWalks.{walkFrom, WalkIn};
+ghost use Rattle.paths.specs.Table.{Filled, IsTable};
+ghost use Rattle.paths.specs.PathWalks.{walkFrom, WalkIn};
 ghost use Rattle.mapping.specs.Decoded.{mappingOf};
 ghost use Rattle.mapping.specs.Judged.{Imageable, imageNumber, sideClass};
 
@@ -52,7 +52,7 @@ pub fn path_images(
                 &target_paths.rank,
                 wide(path[parent]),
                 &image.edges,
-                image.length,
+                image.length as usize,
             ) as u8;
         }
     }
@@ -70,7 +70,7 @@ fn side_class<'a>(
     requires { ⌜ (p .length ≤ 15) × WalkIn (now first) (now rank) (p .start) (pathOf p .edges) × (walkFrom (now first) (now rank) (p .start) (pathOf p .edges) < 256) ⌝ }
     ensures { λ r. ⌜ r ≡ sideClass (now (path .entry)) (now (class .entry)) (walkFrom (now (first .entry)) (now (rank .entry)) (p .start) (pathOf p .edges)) ⌝ }
 {
-    let x = index(path[walk(first, rank, wide(p.start), &p.edges, p.length)]);
+    let x = index(path[walk(first, rank, wide(p.start), &p.edges, p.length as usize)]);
     class[x]
 }
 

@@ -1,14 +1,12 @@
-// Mappings: the judge of a mapping sheet, images of paths, evenness and lifts.
+// Mappings: the judge of a mapping sheet, images of paths, and the edges of a path.
 pub mod attributes;
 pub mod decode;
 pub mod edges;
-pub mod even;
 pub mod fits;
 pub mod images;
-pub mod lifts;
 
+use paths::Paths;
 use schema::Path;
-use schema::Paths;
 use schema::Schema;
 ghost use mathlib.Core.Path.{_≡_};
 ghost use Rattle.meaning.specs.Judge.{judgeMapping};
@@ -18,7 +16,7 @@ ghost use Rattle.mapping.specs.Judged.{Schemas, testMapping, Says};
 
 // The image of an edge: edges of T, from the image of the edge's source on. Their number is a field of 4 bits.
 pub struct Image {
-    pub length: usize,
+    pub length: u8,
     pub edges: [u8; Path::EDGES],
 }
 

@@ -13,7 +13,7 @@ use Rattle.schema.specs.declared.Schema.{Schema}
 use Rattle.schema.specs.Decoded.{schemaOf, frontOf}
 use Rattle.instance.specs.declared.Instance.{Instance}
 use Rattle.instance.specs.Decoded.{tablesOf}
-use Rattle.instance.specs.Matched.{readPartners, judgedPartners}
+use Rattle.encoding.specs.Matched.{readPartners, judgedPartners}
 use Rattle.matching.specs.Compared.{partnersOf}
 use Rattle.migration.specs.Matched.{judgedMatching}
 

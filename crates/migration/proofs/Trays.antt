@@ -9,8 +9,8 @@ use Rattle.meaning.specs.Formats.{instanceSheet}
 use Rattle.meaning.specs.Calls as meaning
 use Rattle.meaning.specs.Calls.{Outcome, refused, accepted, sheetOf, Lent, written, inTray}
 use Rattle.instance.specs.Decoded.{tablesOf}
-use Rattle.instance.specs.Written.{Written, sheetBytes}
-use Rattle.instance.proofs.Writing.{sheet-length}
+use Rattle.encoding.specs.Written.{Written, sheetBytes}
+use Rattle.encoding.proofs.Writing.{sheet-length}
 use Rattle.migration.specs.declared.Refusal.{Refusal}
 use Rattle.migration.specs.declared.results.Migrated.{Migrated}
 use Rattle.migration.specs.Answers.{outcomeOf}

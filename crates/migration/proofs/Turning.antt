@@ -13,7 +13,7 @@ use Rattle.meaning.specs.Formats as formats
 use Rattle.meaning.specs.Views.{instanceOf}
 use Rattle.schema.specs.Decoded.{frontOf}
 use Rattle.mapping.proofs.Viewing.{node-at}
-use Rattle.mapping.proofs.JoinedRows.{joined-length}
+use Rattle.lifts.proofs.JoinedRows.{joined-length}
 use Rattle.instance.specs.declared.Instance.{Instance}
 use Rattle.instance.specs.Decoded.{tablesOf}
 use Rattle.delta.proofs.Pulling.{tabulate-upto}

@@ -1,13 +1,13 @@
 // The sheets of S, T and a mapping, which every call along a mapping opens first.
 use crate::Refusal;
 use instance::has_few_columns;
+use lifts::even::is_even;
 use mapping::Mapping;
-use mapping::even::is_even;
 use mapping::judge_mapping;
-use schema::Paths;
+use paths::Paths;
+use paths::path_table;
 use schema::Schema;
 use schema::judge_schema;
-use schema::path_table;
 ghost use mathlib.Core.Path.{_≡_};
 ghost use mathlib.Core.Bool.{cond};
 ghost use Rattle.meaning.specs.Evenness.{even};

@@ -1,10 +1,10 @@
 // Results: the size of a migrated instance (refusal 15), and how its sheet is written into a lent tray (refusal 16).
 use crate::Refusal;
 use crate::Written;
+use encoding::sheet_length;
+use encoding::write_instance;
 use instance::Instance;
 use instance::decode::total;
-use instance::encode::sheet_length;
-use instance::encode::write_instance;
 use schema::Schema;
 ghost use mathlib.Core.Path.{_≡_};
 ghost use mathlib.Core.Bool.{cond};

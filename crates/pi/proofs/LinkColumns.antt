@@ -9,7 +9,7 @@ use Rattle.meaning.specs.Schema.{path, source, target}
 use Rattle.meaning.specs.Pi.{componentAt, noComponent, pi}
 use Rattle.meaning.proofs.Tabulate.{tabulate-same}
 use Rattle.schema.specs.declared.Schema.{Schema}
-use Rattle.schema.specs.declared.Paths.{Paths}
+use Rattle.paths.specs.declared.Paths.{Paths}
 use Rattle.schema.specs.Decoded.{graphOf, schemaOf}
 use Rattle.schema.proofs.GraphEdges.{edges-count, source-at, target-at}
 use Rattle.mapping.specs.declared.Mapping.{Mapping}

@@ -17,14 +17,14 @@ use Rattle.meaning.proofs.Tabulate.{and-both}
 use Rattle.meaning.proofs.Lists.{and-intro}
 use Rattle.agreement.proofs.Paths.{pathCount, numberOf, pathAt, number-in, number-path, path-iff, path-short, allPaths-each, pathsFrom-each}
 use Rattle.schema.specs.declared.Schema.{Schema}
-use Rattle.schema.specs.declared.Paths.{Paths}
+use Rattle.paths.specs.declared.Paths.{Paths}
 use Rattle.schema.specs.Decoded.{graphOf, schemaOf}
-use Rattle.schema.specs.PathNumbers.{endOf}
-use Rattle.schema.specs.PathWalks.{walkFrom}
+use Rattle.paths.specs.PathNumbers.{endOf}
+use Rattle.paths.specs.PathWalks.{walkFrom}
 use Rattle.schema.proofs.GraphEdges.{edges-count, source-at, target-at}
-use Rattle.schema.proofs.PathNumbers.{trivial-at, trivial-count}
-use Rattle.schema.proofs.PathWalks.{Reached, walk-reaches}
-use Rattle.schema.proofs.EquationPairs.{table-index}
+use Rattle.paths.proofs.PathNumbers.{trivial-at, trivial-count}
+use Rattle.paths.proofs.PathWalks.{Reached, walk-reaches}
+use Rattle.paths.proofs.EquationPairs.{table-index}
 use Rattle.mapping.specs.declared.Mapping.{Mapping}
 use Rattle.mapping.specs.Decoded.{mappingOf}
 use Rattle.mapping.proofs.ImageTable.{formed}

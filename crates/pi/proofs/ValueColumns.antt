@@ -18,9 +18,9 @@ use Rattle.meaning.specs.Pi.{isBijective, componentAt, valueAt, pi}
 use Rattle.meaning.proofs.Tabulate.{tabulate-same}
 use Rattle.meaning.proofs.Lists.{upto-all, filter-of, position-in}
 use Rattle.schema.specs.declared.Schema.{Schema}
-use Rattle.schema.specs.declared.Paths.{Paths}
+use Rattle.paths.specs.declared.Paths.{Paths}
 use Rattle.schema.specs.Decoded.{graphOf, schemaOf, frontOf}
-use Rattle.schema.proofs.PathNumbers.{trivial-at, trivial-count}
+use Rattle.paths.proofs.PathNumbers.{trivial-at, trivial-count}
 use Rattle.mapping.specs.declared.Mapping.{Mapping}
 use Rattle.mapping.specs.Decoded.{mappingOf}
 use Rattle.mapping.proofs.Viewing.{attributes-count, attribute-is}

@@ -5,15 +5,15 @@ use instance::Instance;
 use instance::tables::layout;
 use instance::tables::table_among;
 use mapping::edges::path_edges;
+use paths::Paths;
+use paths::walk::walk;
 use schema::Graph;
-use schema::Paths;
 use schema::numbers::index;
 use schema::numbers::wide;
-use schema::walk::walk;
 ghost use mathlib.Core.Path.{_≡_};
 ghost use Prim.Native.Nat.{_+_, _*_, _≤_, _<_};
 ghost use lib.ListN.{length, getD};
-ghost use Rattle.schema.specs.Table.{Filled};
+ghost use Rattle.paths.specs.Table.{Filled};
 ghost use Rattle.schema.specs.Decoded.{frontOf};
 ghost use Rattle.instance.specs.Decoded.{columnOf, rowsOf};
 ghost use Rattle.delta.specs.Stored.{Stored, ColumnsStored};
@@ -33,7 +33,13 @@ fn after_edge(paths: Paths, d: usize, e: usize, i: usize) -> usize
 {
     let image = path_edges(paths, i);
     let x = index(paths.first[d]) + wide(paths.rank[e]);
-    walk(&paths.first, &paths.rank, x, &image.edges, image.length)
+    walk(
+        &paths.first,
+        &paths.rank,
+        x,
+        &image.edges,
+        image.length as usize,
+    )
 }
 
 // The place at edge e's source of component j of its target.

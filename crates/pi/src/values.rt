@@ -8,7 +8,7 @@ use instance::Instance;
 use instance::decode::rows_of;
 use mapping::Mapping;
 use mapping::attributes::attribute_to;
-use schema::Paths;
+use paths::Paths;
 use schema::Schema;
 use schema::numbers::index;
 use schema::numbers::wide;

@@ -1,9 +1,5 @@
--- What the contracts of schemas say: decoded structs, judges, heights, the table of paths, classes.
+-- What the contracts of schemas say: decoded structs, judges, counts of paths, heights.
 pub mod Decoded
 pub mod Counted
 pub mod Heights
 pub mod Judged
-pub mod PathNumbers
-pub mod Table
-pub mod PathWalks
-pub mod Classes

@@ -59,7 +59,8 @@ pub fn read_path(s: &[u8], at: usize) -> PathRead
         };
     }
     let start = small(s, at, 4);
-    let n = small(s, at + 4, 4) as usize;
+    let length = small(s, at + 4, 4);
+    let n = length as usize;
     if lacks_at(s, at + 8, 5 * n) {
         return PathRead {
             cut: true,
@@ -70,7 +71,7 @@ pub fn read_path(s: &[u8], at: usize) -> PathRead
     let edges = column(s, at + 8, 5, 5, n);
     let path = Path {
         start: start,
-        length: n,
+        length: length,
         edges: edges,
     };
     PathRead {

@@ -1,21 +1,16 @@
-// Schemas: the judges of a schema sheet and of a path sheet, the table of a schema's paths, and the path question.
-pub mod classes;
+// Schemas: the judges of a schema sheet and of a path sheet.
 pub mod count;
 pub mod decode;
 pub mod heights;
 pub mod numbers;
-pub mod table;
-pub mod walk;
 pub mod well_formed;
 
 use bits::reader::ends_at;
 ghost use mathlib.Core.Path.{_≡_};
 ghost use Prim.Native.Nat.{_≤_};
 ghost use Rattle.meaning.specs.Judge.{testSchema, judgeSchema, judgePath};
-ghost use Rattle.meaning.specs.PathEquality.{equal as equalPaths};
-ghost use Rattle.schema.specs.Decoded.{emptyPath, emptySchema, graphOf, pathOf, schemaOf, Limits};
-ghost use Rattle.schema.specs.Judged.{Sound, Says, SoundPath, PathSays};
-ghost use Rattle.schema.specs.Classes.{IsPaths};
+ghost use Rattle.schema.specs.Decoded.{emptyPath, emptySchema, graphOf, schemaOf, Limits};
+ghost use Rattle.schema.specs.Judged.{Says, PathSays};
 
 // Nodes (tables) and edges (links): all that paths depend on.
 pub struct Graph {
@@ -28,7 +23,7 @@ pub struct Graph {
 // A path: a start node and edges that join up.
 pub struct Path {
     pub start: u8,
-    pub length: usize,
+    pub length: u8,
     pub edges: [u8; Path::EDGES],
 }
 
@@ -96,21 +91,6 @@ impl Schema {
             right: sides,
         }
     }
-}
-
-// All paths of a graph, numbered in the paper's order. For each path: its start, its end and its length; the number of the path without its
-// last edge, and that edge; the number of the first path of its class. The paths that follow path i by one edge stand from first[i] on, in
-// the order of the edges; an edge's rank is its place among those that leave its source.
-pub struct Paths {
-    pub count: usize,
-    pub start: [u8; Schema::PATHS],
-    pub end: [u8; Schema::PATHS],
-    pub length: [u8; Schema::PATHS],
-    pub parent: [u8; Schema::PATHS],
-    pub last: [u8; Schema::PATHS],
-    pub class: [u8; Schema::PATHS],
-    pub first: [u16; Schema::PATHS + 1],
-    pub rank: [u8; Schema::EDGES],
 }
 
 // Tests 4, 5 and 6. Where there are too many paths to go over, a loop shows in their counts.
@@ -183,31 +163,4 @@ pub fn judge_path(g: Graph, s: &[u8]) -> JudgedPath
         fault: 2,
         path: path,
     }
-}
-
-// The table of paths of a judged schema, with their classes.
-pub fn path_table(t: Schema) -> Paths
-    requires { ⌜ Sound t ⌝ }
-    ensures { λ r. ⌜ IsPaths (schemaOf t) r ⌝ }
-{
-    let g = t.graph;
-    let count = count::count_paths(g).paths;
-    let mut p = table::fill(g, count);
-    let rank = table::rank_edges(g);
-    p.count = count;
-    p.rank = rank;
-    let class = classes::class_numbers(t, p).of;
-    p.class = class;
-    p
-}
-
-// The path question: whether two paths of a judged schema are equal.
-pub fn equal(t: Schema, a: Path, b: Path) -> bool
-    requires { ⌜ Sound t × SoundPath (t .graph) a × SoundPath (t .graph) b ⌝ }
-    ensures { λ r. ⌜ r ≡ equalPaths (schemaOf t) (pathOf a) (pathOf b) ⌝ }
-{
-    let p = path_table(t);
-    let x = walk::path_number(p, a);
-    let y = walk::path_number(p, b);
-    classes::same_class(&p.class, x, y)
 }

@@ -22,7 +22,7 @@ pub fn follow(g: Graph, p: Path) -> PathEnd
     requires { ⌜ (g .edges ≤ 32) × (p .length ≤ 15) ⌝ }
     ensures { λ r. ⌜ Followed g p r ⌝ }
 {
-    let n = p.length;
+    let n = p.length as usize;
     let count = g.edges;
     let mut node = p.start;
     if wide(node) >= g.nodes {

@@ -5,9 +5,9 @@ use mathlib.Core.List.{List}
 use lib.ListN.{getD}
 use Rattle.theory.specs.Instance.{follow}
 use Rattle.instance.specs.Followed.{linkIn}
-use Rattle.mapping.specs.Lifts.{joinedBefore}
+use Rattle.lifts.specs.Lifts.{joinedBefore}
 use Rattle.delta.specs.Stored.{Leads, Stored}
-use Rattle.schema.specs.declared.Paths.{Paths}
+use Rattle.paths.specs.declared.Paths.{Paths}
 use Rattle.sigma.specs.Lifted.{LiftLeads, liftRow}
 
 pub end-row : (node counts : List ℕ) (x : ℕ) {r y : ℕ} → r ≡ joinedBefore node counts (getD node x 0) x → x ≡ y → r ≡ joinedBefore node counts (getD node y 0) y

@@ -30,7 +30,7 @@ use Rattle.agreement.proofs.Mappings.{mapping-is}
 use Rattle.agreement.proofs.Valid.{ValidMapping}
 use Rattle.agreement.proofs.Evenness.{even-iff, lift-is, attributeOver-is}
 use Rattle.schema.specs.declared.Schema.{Schema}
-use Rattle.schema.specs.declared.Paths.{Paths}
+use Rattle.paths.specs.declared.Paths.{Paths}
 use Rattle.schema.specs.Decoded.{graphOf, schemaOf, frontOf}
 use Rattle.schema.proofs.GraphEdges.{edges-count, source-at}
 use Rattle.instance.specs.declared.Instance.{Instance}
@@ -40,12 +40,12 @@ use Rattle.instance.proofs.SoundSchema.{source-in, home-in}
 use Rattle.instance.proofs.Following.{count-at, rows-few, Led, led}
 use Rattle.mapping.specs.declared.Mapping.{Mapping}
 use Rattle.mapping.specs.Decoded.{mappingOf}
-use Rattle.mapping.specs.Lifts.{IsLift, EdgeLifts, joinedBefore}
+use Rattle.lifts.specs.Lifts.{IsLift, EdgeLifts, joinedBefore}
 use Rattle.mapping.specs.PathEdges.{pathEdges}
 use Rattle.mapping.proofs.Viewing.{node-at, attributes-count, attribute-is}
 use Rattle.mapping.proofs.ImageTable.{formed}
-use Rattle.mapping.proofs.JoinedRows.{first-row, joined-length}
-use Rattle.mapping.proofs.Columns.{attribute-over}
+use Rattle.lifts.proofs.JoinedRows.{first-row, joined-length}
+use Rattle.lifts.proofs.Columns.{attribute-over}
 use Rattle.mapping.proofs.PathEdges.{edges-are}
 use Rattle.delta.proofs.Pulling.{tabulate-upto}
 use Rattle.sigma.specs.Joined.{JoinedColumns, attributeIn, valueOver}

@@ -6,8 +6,8 @@ use lib.ListN.{length, getD}
 use Rattle.meaning.specs.Lists.{upto, filter, headOr}
 use Rattle.schema.specs.declared.Schema.{Schema}
 use Rattle.mapping.specs.declared.Mapping.{Mapping}
-use Rattle.mapping.specs.Even.{isOver}
-use Rattle.mapping.specs.Lifts.{joinedBefore}
+use Rattle.lifts.specs.Even.{isOver}
+use Rattle.lifts.specs.Lifts.{joinedBefore}
 
 -- the rows of the nodes below n over d stand in r from base on; g c has those of c
 pub record JoinedStored (node counts : List ℕ) (d n : ℕ) (g : ℕ → ℕ → ℕ) (base : ℕ) (l r : List ℕ) : Type 0 where

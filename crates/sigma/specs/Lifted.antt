@@ -4,10 +4,10 @@ use mathlib.Core.Path.{_≡_}
 use mathlib.Core.List.{List}
 use lib.ListN.{getD}
 use Rattle.theory.specs.Instance.{follow}
-use Rattle.schema.specs.declared.Paths.{Paths}
+use Rattle.paths.specs.declared.Paths.{Paths}
 use Rattle.instance.specs.Followed.{linkIn}
 use Rattle.mapping.specs.PathEdges.{pathEdges}
-use Rattle.mapping.specs.Lifts.{joinedBefore}
+use Rattle.lifts.specs.Lifts.{joinedBefore}
 use Rattle.delta.specs.Stored.{Leads}
 
 -- the place of the first row of path i's end in its joined list

@@ -3,13 +3,13 @@ use delta::columns::copy_column;
 use instance::Instance;
 use instance::decode::wide;
 use instance::follow::follow;
+use lifts::first_over;
+use lifts::rows_before;
 use mapping::Image;
 use mapping::Mapping;
 use mapping::edges::path_edges;
 use mapping::images::index;
-use mapping::lifts::first_over;
-use mapping::lifts::rows_before;
-use schema::Paths;
+use paths::Paths;
 use schema::Schema;
 ghost use mathlib.Core.Path.{_≡_};
 ghost use Prim.Native.Nat.{_+_, _*_, _≤_, _<_};
@@ -81,10 +81,11 @@ fn place_column(
     requires { ⌜ (image .length ≤ 15) × (first ≤ 512) × Leads (now links) (imageOf image) rows × (base + rows ≤ length (now out)) ⌝ }
     ensures { λ _. ⌜ Stored (λ x. first + theory.follow (linkIn (now (links .entry))) (imageOf image) x) rows base (now (out .entry)) (now (out .exit)) ⌝ }
 {
+    let n = image.length as usize;
     let edges = image.edges;
     let mut x = 0;
     while x < rows {
-        let row = follow(links, &edges, image.length, x);
+        let row = follow(links, &edges, n, x);
         out[base + x] = (first + row) as u32;
         x += 1;
     }

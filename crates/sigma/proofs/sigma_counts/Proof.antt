@@ -2,7 +2,7 @@
 use Prim.Native.Nat.{_-_, _≤_}
 use mathlib.Core.Path.{refl}
 use native.Mathlib.Omega.{arith}
-use Rattle.mapping.specs.Lifts.{joinedBefore}
+use Rattle.lifts.specs.Lifts.{joinedBefore}
 use Rattle.delta.specs.Stored.{Counts}
 use Rattle.delta.proofs.Storing.{counts-none, counts-more, counts-done}
 use Rattle.sigma.proofs.Joining.{joined-few}

@@ -15,15 +15,21 @@ right-long c = search needs
 slice-aggregate-agree : tie.Need-slice-aggregate-agree
 slice-aggregate-agree c = search needs
 
+cast-agree : tie.Need-cast-agree
+cast-agree c = search needs
+
 slice-aggregate-agree-2 : tie.Need-slice-aggregate-agree-2
 slice-aggregate-agree-2 c = search needs
 
+cast-agree-2 : tie.Need-cast-agree-2
+cast-agree-2 c = search needs
+
 agree-requires : tie.Need-agree-requires
-agree-requires c κs = let z = c .before .before .before .before .before in (omega (arith, left-long z), omega (arith, right-long z), z .pre .2, z .pre .3)
+agree-requires c κs = let z = c .before .before .before .before .before .before .before in (omega (arith, left-long z), omega (arith, right-long z), z .pre .2, z .pre .3)
 
 returns : tie.Need-returns
 returns c = search needs
 
 pub paths-agree-spec : {M : Type 1} → statement M
 paths-agree-spec =
-    tie.close (tie.spec slice-aggregate-agree slice-aggregate-agree-2 agree-requires returns)
+    tie.close (tie.spec slice-aggregate-agree cast-agree slice-aggregate-agree-2 cast-agree-2 agree-requires returns)

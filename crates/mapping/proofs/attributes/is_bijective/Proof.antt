@@ -1,17 +1,23 @@
 -- `mapping::attributes::is_bijective` meets its contract.
-use Prim.Native.Nat.{_-_}
-use mathlib.Core.Path.{sym, _∙_}
+use Prim.Native.Nat.{ℕ, _-_}
+use mathlib.Core.Path.{_≡_, sym, ap, _∙_}
 use native.Mathlib.Omega.{arith}
 use borrow.Author.Tests.{eq-eqb, ne-eqb}
 use lib.ListN.{length}
 use lib.Dec.{eqb}
-use Rattle.meaning.specs.Lists.{filter}
+use Rattle.meaning.specs.Lists.{upto, filter, all}
+use Rattle.meaning.specs.Pi.{isBijective}
 use Rattle.meaning.proofs.Tabulate.{Passed, passed-start, passed-more}
-use Rattle.schema.specs.Decoded.{frontOf}
-use Rattle.mapping.proofs.Viewing.{upto-fail, upto-done}
-use Rattle.mapping.proofs.Columns.{bijective-by}
+use Rattle.schema.specs.declared.Schema.{Schema}
+use Rattle.schema.specs.Decoded.{schemaOf, frontOf}
+use Rattle.mapping.specs.declared.Mapping.{Mapping}
+use Rattle.mapping.specs.Decoded.{mappingOf}
+use Rattle.mapping.proofs.Viewing.{attributes-count, upto-fail, upto-done}
 use Rattle.mapping.proofs.attributes.is_bijective.Statement.{statement}
 use Rattle.mapping.proofs.attributes.is_bijective.Tie as tie
+
+bijective-by : (s : Schema) (f : Mapping) (t : Schema) → isBijective (schemaOf t) (mappingOf s f) ≡ all (λ b. eqb (length (filter (eqb b) (frontOf (s .attributes) (f .attribute)))) 1) (upto (t .attributes))
+bijective-by s f t = ap (λ (n : ℕ). all (λ b. eqb (length (filter (eqb b) (mappingOf s f .attributes))) 1) (upto n)) (attributes-count t)
 
 abbrev Inv-loop : tie.InvT-loop
 Inv-loop image n count b₀ b = Passed (λ x. eqb (length (filter (eqb x) (frontOf n image))) 1) count (λ k. k) b

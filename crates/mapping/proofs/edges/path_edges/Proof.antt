@@ -44,6 +44,9 @@ loop-less c = omega arith
 loop-again : tie.Need-loop-again Inv-loop μ-loop
 loop-again c = walked-more (c .before .before .before .before .loop .inv) (c .before .before .before .loop-test .taken) (c .index2 .ensures .0) (c .index2 .ensures .1)
 
+cast-length : tie.Need-cast-length Inv-loop μ-loop
+cast-length c = omega (arith, c .before .loop .inv .few)
+
 returns : tie.Need-returns Inv-loop μ-loop
 returns c = record { says = walked-done (c .before .loop .inv) (c .loop-test .left) ∙ ap (edgesBack (c .before .before .before .before .args .t1 .last) (c .before .before .before .before .args .t1 .parent) (c .before .before .before .before .args .i)) (c .before .before .index .ensures .0); short = c .before .loop .inv .few }
 
@@ -63,4 +66,5 @@ path-edges-spec =
     index-requires-2
     loop-less
     loop-again
+    cast-length
     returns)

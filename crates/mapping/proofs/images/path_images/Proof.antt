@@ -6,8 +6,8 @@ use borrow.Author.Needs.{needs}
 use lib.ListN.{getD}
 use Rattle.schema.specs.declared.Schema.{Schema}
 use Rattle.schema.specs.Decoded.{schemaOf}
-use Rattle.schema.specs.Table.{Filled}
-use Rattle.schema.proofs.Filling.{filled-start, filled-more}
+use Rattle.paths.specs.Table.{Filled}
+use Rattle.paths.proofs.Filling.{filled-start, filled-more}
 use Rattle.mapping.specs.Decoded.{mappingOf}
 use Rattle.mapping.specs.Judged.{Imageable, imageNumber}
 use Rattle.mapping.proofs.ImageTable.{number-low, trivial-image, Turn, longer-image}
@@ -83,6 +83,9 @@ array-read-wide c = let f = turn (c .before .before .before .before .before .bef
 wide-requires-3 : tie.Need-wide-requires-3 Inv-loop μ-loop
 wide-requires-3 c κs = search needs
 
+cast-walk : tie.Need-cast-walk Inv-loop μ-loop
+cast-walk c = let s = rw (← last-is (c .before .before .before .before .before .before .before)) at (turn (c .before .before .before .before .before .before .before .before .before .before .before) .short) in omega arith
+
 walk-requires : tie.Need-walk-requires Inv-loop μ-loop
 walk-requires c κs =
     let f = turn (c .before .before .before .before .before .before .before .before .before .before .before) in
@@ -131,6 +134,7 @@ path-images-spec =
     element-copy-out-image
     array-read-wide
     wide-requires-3
+    cast-walk
     walk-requires
     cast-path
     array-write-path-2

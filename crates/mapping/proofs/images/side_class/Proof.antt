@@ -7,6 +7,9 @@ use Rattle.mapping.proofs.images.side_class.Tie as tie
 wide-requires : tie.Need-wide-requires
 wide-requires c κs = search needs
 
+cast-walk : tie.Need-cast-walk
+cast-walk c = search needs
+
 walk-requires : tie.Need-walk-requires
 walk-requires c κs = let p = c .before .before .before .pre in rw (c .before .before .wide .ensures) (let l = p .0 in omega arith, p .1)
 
@@ -27,6 +30,7 @@ side-class-spec =
     tie.close
     (tie.spec
     wide-requires
+    cast-walk
     walk-requires
     element-copy-out-index
     index-requires

@@ -2,7 +2,7 @@
 use native.Mathlib.Omega.{arith}
 use Rattle.meaning.specs.Formats.{matchingSheet}
 use Rattle.schema.specs.Decoded.{frontOf}
-use Rattle.instance.proofs.Writing.{matching-length}
+use Rattle.encoding.proofs.Writing.{matching-length}
 use Rattle.migration.proofs.Trays.{tray-written, tray-small}
 use borrow.Author.Needs.{needs}
 use Rattle.migration.proofs.turnings.write_partners.Statement.{statement}

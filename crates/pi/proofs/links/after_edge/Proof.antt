@@ -26,6 +26,9 @@ wide-requires c κs = search needs
 add-x : tie.Need-add-x
 add-x c = let h = c .before .before .before .before .before .pre .next-low in let a = c .wide .ensures in let b = c .before .before .index .ensures in omega arith
 
+cast-walk : tie.Need-cast-walk
+cast-walk c = search needs
+
 walk-requires : tie.Need-walk-requires
 walk-requires c κs =
     let z = c .before .before .before .before .before .before .before .before .before .before in
@@ -48,5 +51,6 @@ after-edge-spec =
     element-copy-out-wide
     wide-requires
     add-x
+    cast-walk
     walk-requires
     returns)

@@ -4,8 +4,8 @@ use mathlib.Core.Path.{_≡_, ap}
 use native.Mathlib.Omega.{arith}
 use borrow.Author.Needs.{needs}
 use lib.ListN.{getD}
-use Rattle.schema.specs.Table.{Filled}
-use Rattle.schema.proofs.Filling.{filled-start, filled-more}
+use Rattle.paths.specs.Table.{Filled}
+use Rattle.paths.proofs.Filling.{filled-start, filled-more}
 use Rattle.pi.specs.Links.{targetOf, placeAfter}
 use Rattle.pi.proofs.Rows.{filled-done}
 use Rattle.pi.proofs.links.places_after.Statement.{statement}

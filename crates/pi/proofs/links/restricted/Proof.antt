@@ -3,8 +3,8 @@ use Prim.Native.Nat.{_-_}
 use native.Mathlib.Omega.{arith}
 use borrow.Author.Needs.{needs}
 use lib.ListN.{getD}
-use Rattle.schema.specs.Table.{Filled}
-use Rattle.schema.proofs.Filling.{filled-start, filled-more}
+use Rattle.paths.specs.Table.{Filled}
+use Rattle.paths.proofs.Filling.{filled-start, filled-more}
 use Rattle.pi.specs.Links.{entryOf}
 use Rattle.pi.proofs.Rows.{filled-done}
 use Rattle.pi.proofs.links.restricted.Statement.{statement}

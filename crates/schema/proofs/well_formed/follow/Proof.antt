@@ -16,6 +16,9 @@ Inv-loop g p n count node₀ i₀ node i = Gone g p i node
 abbrev μ-loop : tie.MeasureT-loop
 μ-loop g p n count node₀ i₀ node i = p .length - i
 
+cast-n : tie.Need-cast-n Inv-loop μ-loop
+cast-n c = search needs
+
 wide-requires : tie.Need-wide-requires Inv-loop μ-loop
 wide-requires c κs = search needs
 
@@ -69,6 +72,7 @@ follow-spec =
     (tie.spec
     Inv-loop
     μ-loop
+    cast-n
     wide-requires
     returns
     loop-holds

@@ -4,7 +4,7 @@ use mathlib.Core.Path.{_≡_, sym, ap, _∙_}
 use native.Mathlib.Omega.{arith}
 use lib.ListN.{getD}
 use borrow.Author.Needs.{needs}
-use Rattle.mapping.specs.Lifts.{joinedBefore}
+use Rattle.lifts.specs.Lifts.{joinedBefore}
 use Rattle.sigma.specs.Joined.{JoinedStored}
 use Rattle.sigma.specs.Lifted.{liftRow}
 use Rattle.sigma.proofs.Joining.{before-skip, joined-next, joined-room, joined-none, joined-more, joined-skip, joined-done, stored-at}

@@ -5,7 +5,7 @@ use native.Mathlib.Omega.{arith}
 use lib.ListN.{length}
 use borrow.Author.Needs.{needs}
 use Rattle.theory.specs.Instance.{follow}
-use Rattle.mapping.specs.Decoded.{imageOf}
+use Rattle.schema.specs.Decoded.{frontOf}
 use Rattle.instance.specs.Followed.{linkIn}
 use Rattle.delta.specs.Stored.{Stored}
 use Rattle.delta.proofs.Storing.{stored-none, stored-more, stored-done}
@@ -13,13 +13,16 @@ use Rattle.sigma.proofs.columns.place_column.Statement.{statement}
 use Rattle.sigma.proofs.columns.place_column.Tie as tie
 
 abbrev Inv-loop : tie.InvT-loop
-Inv-loop links image first rows out₀ base edges x₀ out x = Stored (λ y. first + follow (linkIn links) (imageOf image) y) x base out₀ out
+Inv-loop links first rows out₀ base n edges x₀ out x = Stored (λ y. first + follow (linkIn links) (frontOf n edges) y) x base out₀ out
 
 abbrev μ-loop : tie.MeasureT-loop
-μ-loop links image first rows out₀ base edges x₀ out x = rows - x
+μ-loop links first rows out₀ base n edges x₀ out x = rows - x
 
 edges-long : (c : tie.Start Inv-loop μ-loop) → length (c .args .image .edges) ≡ 16
 edges-long c = search needs
+
+cast-n : tie.Need-cast-n Inv-loop μ-loop
+cast-n c = search needs
 
 loop-holds : tie.Need-loop-holds Inv-loop μ-loop
 loop-holds c = stored-none _ _ _
@@ -28,19 +31,19 @@ slice-aggregate-follow : tie.Need-slice-aggregate-follow Inv-loop μ-loop
 slice-aggregate-follow c = search needs
 
 follow-requires : tie.Need-follow-requires Inv-loop μ-loop
-follow-requires c κs = let z = c .before .before .before .before .before .before in (omega (arith, edges-long z, z .pre .0), z .pre .2 .stays (c .before .before .loop .x) (c .before .loop-test .taken))
+follow-requires c κs = let z = c .before .before .before .before .before .before .before in (omega (arith, edges-long z, z .pre .0), z .pre .2 .stays (c .before .before .loop .x) (c .before .loop-test .taken))
 
 add-out : tie.Need-add-out Inv-loop μ-loop
-add-out c = let p = c .before .before .before .before .before .before .before .pre in omega (arith, c .follow .ensures, p .1, p .2 .few (c .before .before .before .loop .x) (c .before .before .loop-test .taken))
+add-out c = let p = c .before .before .before .before .before .before .before .before .pre in omega (arith, c .follow .ensures, p .1, p .2 .few (c .before .before .before .loop .x) (c .before .before .loop-test .taken))
 
 cast-out : tie.Need-cast-out Inv-loop μ-loop
-cast-out c = let p = c .before .before .before .before .before .before .before .pre in omega (arith, c .follow .ensures, p .1, p .2 .few (c .before .before .before .loop .x) (c .before .before .loop-test .taken))
+cast-out c = let p = c .before .before .before .before .before .before .before .before .pre in omega (arith, c .follow .ensures, p .1, p .2 .few (c .before .before .before .loop .x) (c .before .before .loop-test .taken))
 
 add-out-2 : tie.Need-add-out-2 Inv-loop μ-loop
 add-out-2 c = omega arith
 
 mul-out : tie.Need-mul-out Inv-loop μ-loop
-mul-out c = let h : c .before .before .before .before .before .before .before .args .base + c .before .before .before .loop .x < length (c .before .before .before .loop .out) = omega arith in search needs
+mul-out c = let h : c .before .before .before .before .before .before .before .before .args .base + c .before .before .before .loop .x < length (c .before .before .before .loop .out) = omega arith in search needs
 
 slice-write-out : tie.Need-slice-write-out Inv-loop μ-loop
 slice-write-out c = omega arith
@@ -52,7 +55,7 @@ loop-less : tie.Need-loop-less Inv-loop μ-loop
 loop-less c = omega arith
 
 loop-again : tie.Need-loop-again Inv-loop μ-loop
-loop-again c = stored-more (c .before .before .before .loop .inv) (omega arith) (ap (λ (n : ℕ). c .before .before .before .before .before .before .before .args .first + n) (c .follow .ensures))
+loop-again c = stored-more (c .before .before .before .loop .inv) (omega arith) (ap (λ (n : ℕ). c .before .before .before .before .before .before .before .before .args .first + n) (c .follow .ensures))
 
 same-length : tie.Need-same-length Inv-loop μ-loop
 same-length c = c .before .loop .inv .long
@@ -66,6 +69,7 @@ place-column-spec =
     (tie.spec
     Inv-loop
     μ-loop
+    cast-n
     loop-holds
     slice-aggregate-follow
     follow-requires

@@ -1,0 +1,143 @@
+-- Laws of writing: fields of one width one by one, columns one by one, and the whole sheet.
+use Prim.Native.Nat.{ℕ, zero, suc, _+_, _*_}
+use mathlib.Core.Path.{_≡_, refl, sym, ap, ap₂, _∙_}
+use mathlib.Core.List.{List, [], _∷_, _++_, map-append, append-nil}
+use native.Mathlib.Omega.{arith}
+use native.Mathlib.Nat.{mul-suc, mul-zero, mul-add, zero-add}
+use native.Mathlib.Numerals.{add-one}
+use lib.ListN.{length, drop, getD, replicate}
+use Rattle.bits.specs.Field.{bytesFor}
+use Rattle.bits.specs.Pack.{totalWidth, pack}
+use Rattle.bits.specs.Put.{put, putAll}
+use Rattle.bits.proofs.Writing.{putAll-append}
+use Rattle.bits.proofs.Packing.{length-pack, totalWidth-append, putAll-pack}
+use Rattle.theory.specs.Numbering.{tabulate}
+use Rattle.meaning.specs.Lists.{concatMap}
+use Rattle.meaning.specs.Formats.{fieldsOf, instanceSheet, matchingSheet}
+use Rattle.meaning.proofs.Tabulate.{tabulate-more, tabulate-same}
+use Rattle.meaning.proofs.PathLevels.{concatMap-append}
+use Rattle.schema.specs.declared.Schema.{Schema}
+use Rattle.schema.specs.Decoded.{frontOf}
+use Rattle.instance.specs.declared.Instance.{Instance}
+use Rattle.instance.specs.Decoded.{rowsOf, columnOf, columnsOf, tablesOf}
+use Rattle.encoding.specs.Written.{Written, rowsIn, columnFields, sheetBits, sheetBytes}
+use Rattle.instance.proofs.Columns.{sumOf-more}
+
+pub put-none : (s : List ℕ) (at : ℕ) → s ≡ putAll s at []
+unfolding putAll
+put-none s at = refl
+
+-- ---- fields of one width
+module _ (width : ℕ) where
+  fields-more : (n : ℕ) (f : ℕ → ℕ) → fieldsOf width (tabulate (n + 1) f) ≡ fieldsOf width (tabulate n f) ++ ((width, f n) ∷ [])
+  fields-more n f = ap (λ (m : ℕ). fieldsOf width (tabulate m f)) (add-one n) ∙ ap (fieldsOf width) (tabulate-more n f) ∙ map-append (λ v. (width, v)) (tabulate n f) (f n ∷ [])
+
+  pub fields-width : (n : ℕ) (f : ℕ → ℕ) → totalWidth (fieldsOf width (tabulate n f)) ≡ width * n
+  unfolding totalWidth
+  fields-width zero f = sym (mul-zero width)
+  fields-width (suc n) f = rw (fields-width n (λ i. f (suc i)), mul-suc) (omega arith)
+
+  -- one field more
+  pub put-more : (s : List ℕ) (at n : ℕ) (f : ℕ → ℕ) → putAll s at (fieldsOf width (tabulate (n + 1) f)) ≡ put (putAll s at (fieldsOf width (tabulate n f))) (at + width * n) width (f n)
+  unfolding putAll
+  put-more s at n f =
+      ap (putAll s at) (fields-more n f)
+      ∙ putAll-append s at (fieldsOf width (tabulate n f)) ((width, f n) ∷ [])
+      ∙ ap (λ (w : ℕ). put (putAll s at (fieldsOf width (tabulate n f))) (at + w) width (f n)) (fields-width n f)
+
+  -- ---- columns
+  module _ (rows : ℕ → ℕ) (l : List ℕ) where
+    columns-step : (n : ℕ) → columnFields width (n + 1) rows l ≡ columnFields width n rows l ++ fieldsOf width (columnOf l (512 * n) (rows n))
+    columns-step n =
+        ap (λ (m : ℕ). columnFields width m rows l) (add-one n)
+        ∙ ap (concatMap (fieldsOf width)) (tabulate-more n (λ k. columnOf l (512 * k) (rows k)))
+        ∙ concatMap-append (fieldsOf width) (columnsOf n rows l) (columnOf l (512 * n) (rows n) ∷ [])
+        ∙ ap (λ (r : List (ℕ × ℕ)). columnFields width n rows l ++ r) (append-nil (fieldsOf width (columnOf l (512 * n) (rows n))))
+
+    rows-more : (n : ℕ) → width * rowsIn (n + 1) rows ≡ width * rowsIn n rows + width * rows n
+    rows-more n = ap (λ (m : ℕ). width * m) (sumOf-more n rows) ∙ mul-add width (rowsIn n rows) (rows n)
+
+    pub columns-width : (n : ℕ) → totalWidth (columnFields width n rows l) ≡ width * rowsIn n rows
+    unfolding totalWidth
+    columns-width zero = sym (mul-zero width)
+    columns-width (suc n) =
+        ap (λ (m : ℕ). totalWidth (columnFields width m rows l)) (sym (add-one n))
+        ∙ ap totalWidth (columns-step n)
+        ∙ totalWidth-append (columnFields width n rows l) (fieldsOf width (columnOf l (512 * n) (rows n)))
+        ∙ ap₂ (λ (a b : ℕ). a + b) (columns-width n) (fields-width (rows n) (λ r. getD l (512 * n + r) 0))
+        ∙ sym (rows-more n) ∙ ap (λ (m : ℕ). width * rowsIn m rows) (add-one n)
+
+    -- one column more
+    pub putAll-more : (s : List ℕ) (at n : ℕ) → putAll s at (columnFields width (n + 1) rows l) ≡ putAll (putAll s at (columnFields width n rows l)) (at + width * rowsIn n rows) (fieldsOf width (columnOf l (512 * n) (rows n)))
+    putAll-more s at n =
+        ap (putAll s at) (columns-step n)
+        ∙ putAll-append s at (columnFields width n rows l) (fieldsOf width (columnOf l (512 * n) (rows n)))
+        ∙ ap (λ (w : ℕ). putAll (putAll s at (columnFields width n rows l)) (at + w) (fieldsOf width (columnOf l (512 * n) (rows n)))) (columns-width n)
+
+-- ---- fields written into a tray that was cleared as far as they reach
+pub packed : (fs : List (ℕ × ℕ)) (tray out : List ℕ) {n : ℕ} → n ≡ bytesFor (totalWidth fs) → out ≡ putAll (replicate n 0 ++ drop n tray) 0 fs → Written (pack fs) tray n out
+packed fs tray out {n} e h = record {
+  length-is = e ∙ sym (length-pack fs);
+  says = h ∙ ap (λ (m : ℕ). putAll (replicate m 0 ++ drop m tray) 0 fs) e ∙ putAll-pack fs (drop (bytesFor (totalWidth fs)) tray)
+      ∙ ap (λ (m : ℕ). pack fs ++ drop m tray) (sym (length-pack fs));
+}
+
+pub in-three : (s : List ℕ) (fs gs hs : List (ℕ × ℕ)) → putAll (putAll (putAll s 0 fs) (totalWidth fs) gs) (totalWidth fs + totalWidth gs) hs ≡ putAll s 0 (fs ++ gs ++ hs)
+in-three s fs gs hs =
+    sym (putAll-append s 0 (fs ++ gs) hs
+    ∙ ap₂ (λ (x : List ℕ) (w : ℕ). putAll x w hs) (putAll-append s 0 fs gs ∙ ap (λ (w : ℕ). putAll (putAll s 0 fs) w gs) (zero-add (totalWidth fs))) (zero-add (totalWidth (fs ++ gs)) ∙ totalWidth-append fs gs))
+
+-- ---- a whole sheet: counts, links and values, one after the other
+module _ (t : Schema) (i : Instance) (links values : List ℕ) where
+  abbrev countFields : List (ℕ × ℕ)
+  countFields = fieldsOf 10 (columnOf (i .counts) 0 (t .graph .nodes))
+
+  abbrev linkFields : List (ℕ × ℕ)
+  linkFields = columnFields 9 (t .graph .edges) (rowsOf (t .graph .source) (i .counts)) links
+
+  abbrev valueFields : List (ℕ × ℕ)
+  valueFields = columnFields 32 (t .attributes) (rowsOf (t .node) (i .counts)) values
+
+  sheet-is : instanceSheet (tablesOf t i links values) ≡ pack (countFields ++ linkFields ++ valueFields)
+  sheet-is =
+      ap (λ (l : List ℕ). pack (fieldsOf 10 l ++ linkFields ++ valueFields)) (tabulate-same (t .graph .nodes) (λ c h. ap (λ (k : ℕ). getD (i .counts) k 0) (sym (zero-add c))))
+
+  counts-width : totalWidth countFields ≡ 10 * t .graph .nodes
+  counts-width = fields-width 10 (t .graph .nodes) (λ r. getD (i .counts) (0 + r) 0)
+
+  links-width : totalWidth linkFields ≡ 9 * rowsIn (t .graph .edges) (rowsOf (t .graph .source) (i .counts))
+  links-width = columns-width 9 (rowsOf (t .graph .source) (i .counts)) links (t .graph .edges)
+
+  values-width : totalWidth valueFields ≡ 32 * rowsIn (t .attributes) (rowsOf (t .node) (i .counts))
+  values-width = columns-width 32 (rowsOf (t .node) (i .counts)) values (t .attributes)
+
+  sheet-width : totalWidth (countFields ++ linkFields ++ valueFields) ≡ sheetBits t i
+  sheet-width =
+      totalWidth-append (countFields ++ linkFields) valueFields
+      ∙ omega (arith, totalWidth-append countFields linkFields, counts-width, links-width, values-width)
+
+  pub sheet-length : length (instanceSheet (tablesOf t i links values)) ≡ sheetBytes t i
+  sheet-length = ap length sheet-is ∙ length-pack (countFields ++ linkFields ++ valueFields) ∙ ap bytesFor sheet-width
+
+  module _ (tray : List ℕ) {n p : ℕ} {a b c d : List ℕ} where
+    pub sheet-written : n ≡ sheetBytes t i → a ≡ replicate n 0 ++ drop n tray → b ≡ putAll a 0 countFields → c ≡ putAll b (10 * t .graph .nodes) linkFields
+        → p ≡ 10 * t .graph .nodes + 9 * rowsIn (t .graph .edges) (rowsOf (t .graph .source) (i .counts)) → d ≡ putAll c p valueFields
+        → Written (instanceSheet (tablesOf t i links values)) tray n d
+    sheet-written e ea eb ec ep ed =
+        rw sheet-is
+        (packed (countFields ++ linkFields ++ valueFields) tray d (e ∙ ap bytesFor (sym sheet-width))
+        (ed ∙ rw (ep, ec, eb, ea, ← counts-width, ← links-width) (in-three (replicate n 0 ++ drop n tray) countFields linkFields valueFields)))
+
+-- ---- a matching's sheet
+module _ (l : List ℕ) (n : ℕ) where
+  partners-same : frontOf n l ≡ columnOf l 0 n
+  partners-same = tabulate-same n (λ c h. ap (λ (k : ℕ). getD l k 0) (sym (zero-add c)))
+
+  partners-width : totalWidth (fieldsOf 9 (columnOf l 0 n)) ≡ 9 * n
+  partners-width = fields-width 9 n (λ r. getD l (0 + r) 0)
+
+  pub matching-length : length (matchingSheet (frontOf n l)) ≡ bytesFor (9 * n)
+  matching-length = ap (λ (x : List ℕ). length (matchingSheet x)) partners-same ∙ length-pack (fieldsOf 9 (columnOf l 0 n)) ∙ ap bytesFor partners-width
+
+  pub matching-written : (tray : List ℕ) {m : ℕ} {a b : List ℕ} → m ≡ bytesFor (9 * n) → a ≡ replicate m 0 ++ drop m tray → b ≡ putAll a 0 (fieldsOf 9 (columnOf l 0 n)) → Written (matchingSheet (frontOf n l)) tray m b
+  matching-written tray {m} {a} {b} e ea eb = rw partners-same (packed (fieldsOf 9 (columnOf l 0 n)) tray b (e ∙ ap bytesFor (sym partners-width)) (eb ∙ rw ea))

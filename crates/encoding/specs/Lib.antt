@@ -1,0 +1,3 @@
+-- What the contracts of writing say: written sheets, matching sheets.
+pub mod Written
+pub mod Matched

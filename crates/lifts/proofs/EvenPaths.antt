@@ -1,0 +1,215 @@
+-- The paths' part of evenness, by the tables of paths: each class over a class of T is the class of all paths over it, and each path of T has one.
+use Prim.Native.Nat.{ℕ, _<_}
+use mathlib.Core.Path.{_≡_, refl, sym, ap, _∙_, subst}
+use mathlib.Core.Bool.{Bool, true, false, not, cond, _&&_}
+use mathlib.Core.List.{List, List·Memᴰ}
+use native.Mathlib.Omega.{arith}
+use borrow.Author.Tests.{eq-eqb, eqb-true}
+use lib.ListN.{getD}
+use lib.Dec.{eqb}
+use Rattle.theory.specs.Schema.{IsPath}
+use Rattle.meaning.specs.Lists.{upto, all}
+use Rattle.meaning.specs.Schema as meaning
+use Rattle.meaning.specs.Schema.{Path, pathsFrom}
+use Rattle.meaning.specs.PathEquality.{classOf, classes, equal}
+use Rattle.meaning.specs.Formats as formats
+use Rattle.meaning.specs.Views.{nodeImage, pathImage}
+use Rattle.meaning.specs.Views as views
+use Rattle.meaning.specs.Evenness.{lifts, oneClass}
+use Rattle.meaning.proofs.Tabulate.{and-both}
+use Rattle.meaning.proofs.Lists.{no-bool, and-intro, filter-in, filter-of, all-in, all-of, all-upto, upto-all}
+use Rattle.agreement.proofs.Paths.{pathCount, numberOf, pathAt, number-in, number-path, number-at, pathAt-in, allPaths-each, pathsFrom-each}
+use Rattle.agreement.proofs.Classes.{classes-is}
+use Rattle.agreement.proofs.Evenness.{oneClass-some, oneClass-same, same-oneClass}
+use Rattle.schema.specs.declared.Schema.{Schema}
+use Rattle.paths.specs.declared.Paths.{Paths}
+use Rattle.schema.specs.Decoded.{graphOf, schemaOf}
+use Rattle.schema.specs.Judged as schemas
+use Rattle.paths.specs.Table.{Filled}
+use Rattle.paths.specs.Classes.{IsPaths}
+use Rattle.mapping.specs.declared.Mapping.{Mapping}
+use Rattle.mapping.specs.Decoded.{mappingOf}
+use Rattle.mapping.specs.Judged.{Schemas, Imageable, Sound, sideClass}
+use Rattle.lifts.specs.Even.{liftClasses, uniqueAt, hasLiftAt, evenPathsAt}
+use Rattle.mapping.proofs.Viewing.{node-at}
+use Rattle.mapping.proofs.Imaging.{image-path, image-below}
+use Rattle.mapping.proofs.ImageTable.{formed, images}
+use Rattle.mapping.proofs.Sides.{image-class}
+use Rattle.lifts.proofs.Lifting.{lifts-some, lifts-every}
+
+-- ---- tests
+pub both-ways : (a b : Bool) → (a ≡ true → b ≡ true) → (b ≡ true → a ≡ true) → a ≡ b
+both-ways true b h k = sym (h refl)
+both-ways false true h k = k refl
+both-ways false false h k = refl
+
+cond-is : (a b : Bool) → (a ≡ true → b ≡ true) → cond a b true ≡ true
+cond-is true b h = h refl
+cond-is false b h = refl
+
+not-is : (a : Bool) → (a ≡ true → ⊥) → not a ≡ true
+not-is true h = absurd (h refl)
+not-is false h = refl
+
+is-not : (a : Bool) → not a ≡ true → a ≡ true → ⊥
+is-not true h e = no-bool (sym h)
+is-not false h e = no-bool (sym e)
+
+-- ---- a schema's table of paths
+module _ {s : Schema} {p : Paths} (sound : schemas.Sound s) (t : IsPaths (schemaOf s) p) where
+  abbrev G : meaning.Graph
+  G = graphOf (s .graph)
+
+  counted : (i : ℕ) → i < p .count → i < pathCount G
+  counted i l = let e = t .table .counted in omega arith
+
+  pub class-at : (i : ℕ) → i < p .count → getD (p .class) i 0 ≡ classOf (schemaOf s) (pathAt G i)
+  class-at i l = t .class .each i l ∙ ap (λ (n : ℕ). getD (classes (schemaOf s)) n 0) (sym (number-at G i (counted i l)))
+
+  pub class-low : (i : ℕ) → i < p .count → getD (p .class) i 0 < 256
+  class-low i l =
+      let a = classes-is (schemaOf s) (formed sound) .classified .lower i (counted i l) in
+      let b = t .table .few in
+      omega (arith, t .class .each i l)
+
+  -- the paths from c are those that start there by the table
+  pub from-table : (c i : ℕ) → c < s .graph .nodes → i < p .count → getD (p .start) i 0 ≡ c → List·Memᴰ (pathAt G i) (pathsFrom G c)
+  from-table c i h l e =
+      let q : pathAt G i .start ≡ c = sym (t .table .columns .start .each i l) ∙ e in
+      let w = allPaths-each (schemaOf s) (formed sound) (pathAt G i) .0 (pathAt-in G i (counted i l)) in
+      pathsFrom-each (schemaOf s) (formed sound) c h (pathAt G i) .1 (q, subst (λ (n : ℕ). IsPath (views.schemaOf (schemaOf s)) n (pathAt G i .edges)) q w)
+
+  pub record Numbered (c : ℕ) (q : Path) : Type 0 where
+    pub number : ℕ
+    pub below : number < p .count
+    pub is : pathAt G number ≡ q
+    pub starts : getD (p .start) number 0 ≡ c
+
+  pub numbered : (c : ℕ) → c < s .graph .nodes → (q : Path) → List·Memᴰ q (pathsFrom G c) → Numbered c q
+  numbered c h q m =
+      let k = pathsFrom-each (schemaOf s) (formed sound) c h q .0 m in
+      let w = allPaths-each (schemaOf s) (formed sound) q .1 (subst (λ (n : ℕ). IsPath (views.schemaOf (schemaOf s)) n (q .edges)) (sym (k .0)) (k .1)) in
+      let l : numberOf G q < p .count = omega (arith, number-in G w, t .table .counted) in
+      record { number = numberOf G q; below = l; is = number-path G w; starts = t .table .columns .start .each (numberOf G q) l ∙ ap (λ (x : Path). x .start) (number-path G w) ∙ k .0 }
+
+-- ---- both tables
+module _ {s t : Schema} {source-paths target-paths : Paths} {f : Mapping} (h : Schemas s t source-paths target-paths) (k : Sound s t source-paths f) {over : List ℕ} (o : Filled 256 (sideClass (f .path) (target-paths .class)) 256 over) where
+  abbrev S : meaning.Schema
+  S = schemaOf s
+
+  abbrev T : meaning.Schema
+  T = schemaOf t
+
+  abbrev F : formats.Mapping
+  F = mappingOf s f
+
+  passed : Imageable s t source-paths target-paths f
+  passed = record { schemas = h; short = k .short; fits = k .fits }
+
+  few : (i : ℕ) → i < source-paths .count → i < 256
+  few i l = let few-paths = h .source-paths .table .few in omega arith
+
+  pub over-at : (i : ℕ) → i < source-paths .count → getD over i 0 ≡ classOf T (pathImage F (pathAt (S .graph) i))
+  over-at i l = o .each i (few i l) ∙ sym (image-class passed (k .images) i l)
+
+  over-low : (i : ℕ) → i < source-paths .count → getD over i 0 < 256
+  over-low i l =
+      let j = image-below (formed (h .source)) (formed (h .target)) (images passed) i (let e = h .source-paths .table .counted in omega arith) in
+      let a : getD (f .path) i 0 < target-paths .count = omega (arith, k .images .each i l, h .target-paths .table .counted) in
+      omega (arith, o .each i (few i l), class-low (h .target) (h .target-paths) (getD (f .path) i 0) a)
+
+  -- a path of S lies over a path of T where their classes are one
+  over-in : (c : ℕ) (q p : Path) → List·Memᴰ p (pathsFrom (S .graph) c) → classOf T (pathImage F p) ≡ classOf T q → List·Memᴰ p (lifts S T F c q)
+  over-in c q p i e = filter-in (λ x. equal T (pathImage F x) q) (pathsFrom (S .graph) c) i (eq-eqb (classOf T (pathImage F p)) (classOf T q) e)
+
+  over-of : (c : ℕ) (q p : Path) → List·Memᴰ p (lifts S T F c q) → List·Memᴰ p (pathsFrom (S .graph) c) × (classOf T (pathImage F p) ≡ classOf T q)
+  over-of c q p i = let u = filter-of (λ x. equal T (pathImage F x) q) (pathsFrom (S .graph) c) i in (u .0, eqb-true (classOf T (pathImage F p)) (classOf T q) (u .1))
+
+  module _ (c : ℕ) (l : c < s .graph .nodes) where
+    abbrev d : ℕ
+    d = nodeImage F c
+
+    d-in : d < t .graph .nodes
+    d-in = images passed .node-in c l
+
+    abbrev classesOver : List ℕ
+    classesOver = liftClasses (source-paths .start) (source-paths .class) over c (source-paths .count)
+
+    abbrev unique : ℕ → Bool
+    unique = uniqueAt (source-paths .start) (source-paths .class) over classesOver c
+
+    abbrev hasLift : ℕ → Bool
+    hasLift = hasLiftAt (target-paths .start) (target-paths .class) classesOver (getD (f .node) c 0)
+
+    every : (i : ℕ) → i < source-paths .count → getD (source-paths .start) i 0 ≡ c → getD classesOver (getD over i 0) 0 ≡ 256 → ⊥
+    every i b e = lifts-every (source-paths .start) (source-paths .class) over c (source-paths .count) i (class-low (h .source) (h .source-paths)) b (over-low i b) e
+
+    -- ---- from the arrays
+    module _ (a : all unique (upto (source-paths .count)) ≡ true) (e : all hasLift (upto (target-paths .count)) ≡ true) where
+      unique-class : (p : Path) → List·Memᴰ p (pathsFrom (S .graph) c) → classOf S p ≡ getD classesOver (classOf T (pathImage F p)) 0
+      unique-class p i =
+          let n = numbered (h .source) (h .source-paths) c l p i in
+          let x = n .number in
+          let u : getD classesOver (getD over x 0) 0 ≡ getD (source-paths .class) x 0 =
+          eqb-true (getD classesOver (getD over x 0) 0) (getD (source-paths .class) x 0)
+          (subst (λ (b : Bool). cond b (eqb (getD classesOver (getD over x 0) 0) (getD (source-paths .class) x 0)) true ≡ true) (eq-eqb (getD (source-paths .start) x 0) c (n .starts)) (upto-all unique (source-paths .count) a x (n .below))) in
+          subst (λ (w : Path). classOf S w ≡ getD classesOver (classOf T (pathImage F w)) 0) (n .is)
+          (sym (class-at (h .source) (h .source-paths) x (n .below)) ∙ sym u ∙ ap (λ (y : ℕ). getD classesOver y 0) (over-at x (n .below)))
+
+      some-lift : (q : Path) → List·Memᴰ q (pathsFrom (T .graph) d) → (p : Path) × List·Memᴰ p (lifts S T F c q)
+      some-lift q i =
+          let n = numbered (h .target) (h .target-paths) d d-in q i in
+          let y = n .number in
+          let u : not (eqb (getD classesOver (getD (target-paths .class) y 0) 0) 256) ≡ true =
+          subst (λ (b : Bool). cond b (not (eqb (getD classesOver (getD (target-paths .class) y 0) 0) 256)) true ≡ true) (eq-eqb (getD (target-paths .start) y 0) (getD (f .node) c 0) (n .starts ∙ node-at s f c l)) (upto-all hasLift (target-paths .count) e y (n .below)) in
+          let v = lifts-some (source-paths .start) (source-paths .class) over c (source-paths .count) (getD (target-paths .class) y 0) (class-low (h .target) (h .target-paths) y (n .below))
+          (λ z. is-not (eqb (getD classesOver (getD (target-paths .class) y 0) 0) 256) u (eq-eqb (getD classesOver (getD (target-paths .class) y 0) 0) 256 z)) in
+          let x = v .number in (
+            pathAt (S .graph) x,
+            over-in c q (pathAt (S .graph) x) (from-table (h .source) (h .source-paths) c x l (v .below) (v .starts))
+                (sym (over-at x (v .below)) ∙ v .lies ∙ class-at (h .target) (h .target-paths) y (n .below) ∙ ap (classOf T) (n .is)),
+          )
+
+      one-lift : (q : Path) → List·Memᴰ q (pathsFrom (T .graph) d) → oneClass S (lifts S T F c q) ≡ true
+      one-lift q i = same-oneClass S (lifts S T F c q) (some-lift q i .1) (λ p r x y.
+          let u = over-of c q p x in
+          let v = over-of c q r y in
+          unique-class p (u .0) ∙ ap (λ (z : ℕ). getD classesOver z 0) (u .1 ∙ sym (v .1)) ∙ sym (unique-class r (v .0)))
+
+    -- ---- to the arrays
+    module _ (e : all (λ q. oneClass S (lifts S T F c q)) (pathsFrom (T .graph) d) ≡ true) where
+      image-from : (x : ℕ) → x < source-paths .count → getD (source-paths .start) x 0 ≡ c → List·Memᴰ (pathImage F (pathAt (S .graph) x)) (pathsFrom (T .graph) d)
+      image-from x b z =
+          let p = pathAt (S .graph) x in
+          let w = pathsFrom-each S (formed (h .source)) c l p .0 (from-table (h .source) (h .source-paths) c x l b z) in
+          pathsFrom-each T (formed (h .target)) d d-in (pathImage F p) .1 (ap (nodeImage F) (w .0), image-path (formed (h .source)) (formed (h .target)) (images passed) c (p .edges) (w .1))
+
+      each-unique : (x : ℕ) → x < source-paths .count → unique x ≡ true
+      each-unique x b = cond-is (eqb (getD (source-paths .start) x 0) c) (eqb (getD classesOver (getD over x 0) 0) (getD (source-paths .class) x 0)) (λ z.
+          let st = eqb-true (getD (source-paths .start) x 0) c z in
+          let q = pathImage F (pathAt (S .graph) x) in
+          let v = lifts-some (source-paths .start) (source-paths .class) over c (source-paths .count) (getD over x 0) (over-low x b) (every x b st) in
+          let y = v .number in
+          let one = all-of (λ (q : Path). oneClass S (lifts S T F c q)) (pathsFrom (T .graph) d) e (image-from x b st) in
+          let same = oneClass-same S (lifts S T F c q) one (pathAt (S .graph) y) (pathAt (S .graph) x)
+          (over-in c q (pathAt (S .graph) y) (from-table (h .source) (h .source-paths) c y l (v .below) (v .starts)) (sym (over-at y (v .below)) ∙ v .lies ∙ over-at x b))
+          (over-in c q (pathAt (S .graph) x) (from-table (h .source) (h .source-paths) c x l b st) refl) in
+          eq-eqb (getD classesOver (getD over x 0) 0) (getD (source-paths .class) x 0)
+          (sym (v .has) ∙ class-at (h .source) (h .source-paths) y (v .below) ∙ same ∙ sym (class-at (h .source) (h .source-paths) x b)))
+
+      each-has-lift : (y : ℕ) → y < target-paths .count → hasLift y ≡ true
+      each-has-lift y b = cond-is (eqb (getD (target-paths .start) y 0) (getD (f .node) c 0)) (not (eqb (getD classesOver (getD (target-paths .class) y 0) 0) 256)) (λ z.
+          let st : getD (target-paths .start) y 0 ≡ d = eqb-true (getD (target-paths .start) y 0) (getD (f .node) c 0) z ∙ sym (node-at s f c l) in
+          let q = pathAt (T .graph) y in
+          let p = oneClass-some S (lifts S T F c q) (all-of (λ (q : Path). oneClass S (lifts S T F c q)) (pathsFrom (T .graph) d) e (from-table (h .target) (h .target-paths) d y d-in b st)) in
+          let u = over-of c q (p .0) (p .1) in
+          let n = numbered (h .source) (h .source-paths) c l (p .0) (u .0) in
+          let x = n .number in
+          let lies-over : getD over x 0 ≡ getD (target-paths .class) y 0 = over-at x (n .below) ∙ ap (λ (w : Path). classOf T (pathImage F w)) (n .is) ∙ u .1 ∙ sym (class-at (h .target) (h .target-paths) y b) in
+          not-is (eqb (getD classesOver (getD (target-paths .class) y 0) 0) 256) (λ r.
+          every x (n .below) (n .starts) (ap (λ (w : ℕ). getD classesOver w 0) lies-over ∙ eqb-true (getD classesOver (getD (target-paths .class) y 0) 0) 256 r)))
+
+    pub even-paths : evenPathsAt source-paths target-paths over (f .node) c ≡ all (λ q. oneClass S (lifts S T F c q)) (pathsFrom (T .graph) d)
+    even-paths = both-ways (all unique (upto (source-paths .count)) && all hasLift (upto (target-paths .count))) (all (λ q. oneClass S (lifts S T F c q)) (pathsFrom (T .graph) d))
+        (λ e. let u = and-both (all unique (upto (source-paths .count))) (all hasLift (upto (target-paths .count))) e in all-in (λ (q : Path). oneClass S (lifts S T F c q)) (pathsFrom (T .graph) d) (λ q i. one-lift (u .0) (u .1) q i))
+        (λ e. and-intro (all-upto unique (source-paths .count) (each-unique e)) (all-upto hasLift (target-paths .count) (each-has-lift e)))

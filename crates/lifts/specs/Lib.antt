@@ -1,0 +1,3 @@
+-- What the contracts of evenness and lifts say.
+pub mod Even
+pub mod Lifts

@@ -1,0 +1,5 @@
+-- What the contracts of paths say: numbers, the table of paths, walks, classes.
+pub mod PathNumbers
+pub mod Table
+pub mod PathWalks
+pub mod Classes

@@ -1,0 +1,172 @@
+// Classes of equal paths: each path starts as a class of its own, and each step of an equation joins two classes under the lower number.
+use crate::Paths;
+use crate::walk::walk;
+use schema::Path;
+use schema::Schema;
+use schema::numbers::index;
+ghost use mathlib.Core.Path.{_≡_};
+ghost use mathlib.Core.List.{map};
+ghost use Prim.Native.Nat.{_+_, _<_, _≤_};
+ghost use lib.ListN.{getD};
+ghost use lib.Dec.{eqb};
+ghost use Rattle.meaning.specs.Lists.{upto};
+ghost use Rattle.meaning.specs.PathEquality.{joinClasses};
+ghost use Rattle.schema.specs.Decoded.{graphOf, schemaOf};
+ghost use Rattle.schema.specs.Judged.{Sound};
+ghost use Rattle.paths.specs.Table.{Filled, IsTable};
+ghost use Rattle.paths.specs.Classes.{renamedTo, joinNumbers, runPairs, followerPairs, RunsIn, NextEnding, equationPairs, Joinable, classNumber};
+
+// The class number of each path.
+pub struct Classes {
+    pub of: [u8; Schema::PATHS],
+}
+
+fn own_classes() -> Classes
+    ensures { λ r. ⌜ r .of ≡ upto 256 ⌝ }
+{
+    let mut of = [0u8; Schema::PATHS];
+    let mut i = 0;
+    while i < Schema::PATHS {
+        of[i] = i as u8;
+        i += 1;
+    }
+    Classes { of: of }
+}
+
+fn renamed(old: u8, new: u8, x: u8) -> u8
+    ensures { λ r. ⌜ r ≡ renamedTo old new x ⌝ }
+{
+    if x == old { new } else { x }
+}
+
+// Class old gets the number new.
+fn rename(c: Classes, old: u8, new: u8) -> Classes
+    ensures { λ r. ⌜ r .of ≡ map (renamedTo old new) (c .of) ⌝ }
+{
+    let mut of = c.of;
+    let mut i = 0;
+    while i < Schema::PATHS {
+        of[i] = renamed(old, new, of[i]);
+        i += 1;
+    }
+    Classes { of: of }
+}
+
+// The classes of paths a and b, joined under the lower number.
+fn join(c: Classes, a: usize, b: usize) -> Classes
+    requires { ⌜ (a < 256) × (b < 256) ⌝ }
+    ensures { λ r. ⌜ r .of ≡ joinClasses (getD (c .of) a 0) (getD (c .of) b 0) (c .of) ⌝ }
+{
+    let x = c.of[a];
+    let y = c.of[b];
+    if x < y {
+        return rename(c, y, x);
+    }
+    rename(c, x, y)
+}
+
+// The same of n paths from a on and n from b on, in turn.
+fn join_runs(c: Classes, a: usize, b: usize, n: usize) -> Classes
+    requires { ⌜ (a + n ≤ 256) × (b + n ≤ 256) ⌝ }
+    ensures { λ r. ⌜ r .of ≡ joinNumbers (runPairs a b n) (c .of) ⌝ }
+{
+    let mut out = c;
+    let mut j = 0;
+    while j < n {
+        let x = a + j;
+        let y = b + j;
+        j += 1;
+        if out.of[x] != out.of[y] {
+            out = join(out, x, y);
+        }
+    }
+    out
+}
+
+// The same of paths a and b, which have one end, and of what follows them by the same edges: depth lengths of them.
+fn join_followers(
+    first: &[u16; Schema::PATHS + 1],
+    c: Classes,
+    a: usize,
+    b: usize,
+    depth: usize,
+) -> Classes
+    requires { ⌜ RunsIn (now first) a b 1 depth ⌝ }
+    ensures { λ r. ⌜ r .of ≡ joinNumbers (followerPairs (now (first .entry)) a b 1 depth) (c .of) ⌝ }
+{
+    let mut out = c;
+    let mut x = a;
+    let mut y = b;
+    let mut n = 1;
+    let mut d = depth;
+    while d > 0 {
+        if n == 0 {
+            return out;
+        }
+        out = join_runs(out, x, y, n);
+        let next = index(first[x]);
+        n = index(first[x + n]) - next;
+        x = next;
+        y = index(first[y]);
+        d -= 1;
+    }
+    out
+}
+
+// The first path from a path on that ends at a node, or the number of paths where none does.
+fn next_ending(end: &[u8; Schema::PATHS], node: u8, from: usize, count: usize) -> usize
+    requires { ⌜ («from» ≤ count) × (count ≤ 256) ⌝ }
+    ensures { λ r. ⌜ NextEnding (now (end .entry)) node «from» count r ⌝ }
+{
+    let mut k = from;
+    while k < count {
+        if end[k] == node {
+            return k;
+        }
+        k += 1;
+    }
+    k
+}
+
+// The classes that an equation joins: behind each path u that ends at its start.
+fn join_equation(p: Paths, c: Classes, left: Path, right: Path, nodes: usize) -> Classes
+    requires { ⌜ Joinable p nodes left right ⌝ }
+    ensures { λ r. ⌜ r .of ≡ joinNumbers (equationPairs p nodes left right) (c .of) ⌝ }
+{
+    let count = p.count;
+    let mut out = c;
+    let mut u = next_ending(&p.end, left.start, 0, count);
+    while u < count {
+        let a = walk(&p.first, &p.rank, u, &left.edges, left.length as usize);
+        let b = walk(&p.first, &p.rank, u, &right.edges, right.length as usize);
+        out = join_followers(&p.first, out, a, b, nodes);
+        u = next_ending(&p.end, left.start, u + 1, count);
+    }
+    out
+}
+
+// The class number of each path of a table.
+pub fn class_numbers(t: Schema, p: Paths) -> Classes
+    requires { ⌜ Sound t × IsTable (graphOf (t .graph)) p ⌝ }
+    ensures { λ r. ⌜ Filled 256 (classNumber (schemaOf t)) (p .count) (r .of) ⌝ }
+{
+    let n = t.equations;
+    let nodes = t.graph.nodes;
+    let mut c = own_classes();
+    let mut q = 0;
+    while q < n {
+        let left = t.left[q];
+        let right = t.right[q];
+        c = join_equation(p, c, left, right, nodes);
+        q += 1;
+    }
+    c
+}
+
+// Whether two paths are in one class.
+pub fn same_class(class: &[u8; Schema::PATHS], a: usize, b: usize) -> bool
+    requires { ⌜ (a < 256) × (b < 256) ⌝ }
+    ensures { λ r. ⌜ r ≡ eqb (getD (now (class .entry)) a 0) (getD (now (class .entry)) b 0) ⌝ }
+{
+    class[a] == class[b]
+}

@@ -1,0 +1,55 @@
+// Paths of a schema: the table of all of them, with their classes, and the path question.
+pub mod classes;
+pub mod table;
+pub mod walk;
+
+use schema::Path;
+use schema::Schema;
+use schema::count;
+ghost use mathlib.Core.Path.{_≡_};
+ghost use Rattle.meaning.specs.PathEquality.{equal as equalPaths};
+ghost use Rattle.schema.specs.Decoded.{pathOf, schemaOf};
+ghost use Rattle.schema.specs.Judged.{Sound, SoundPath};
+ghost use Rattle.paths.specs.Classes.{IsPaths};
+
+// All paths of a graph, numbered in the paper's order. For each path: its start, its end and its length; the number of the path without its
+// last edge, and that edge; the number of the first path of its class. The paths that follow path i by one edge stand from first[i] on, in
+// the order of the edges; an edge's rank is its place among those that leave its source.
+pub struct Paths {
+    pub count: usize,
+    pub start: [u8; Schema::PATHS],
+    pub end: [u8; Schema::PATHS],
+    pub length: [u8; Schema::PATHS],
+    pub parent: [u8; Schema::PATHS],
+    pub last: [u8; Schema::PATHS],
+    pub class: [u8; Schema::PATHS],
+    pub first: [u16; Schema::PATHS + 1],
+    pub rank: [u8; Schema::EDGES],
+}
+
+// The table of paths of a judged schema, with their classes.
+pub fn path_table(t: Schema) -> Paths
+    requires { ⌜ Sound t ⌝ }
+    ensures { λ r. ⌜ IsPaths (schemaOf t) r ⌝ }
+{
+    let g = t.graph;
+    let count = count::count_paths(g).paths;
+    let mut p = table::fill(g, count);
+    let rank = table::rank_edges(g);
+    p.count = count;
+    p.rank = rank;
+    let class = classes::class_numbers(t, p).of;
+    p.class = class;
+    p
+}
+
+// The path question: whether two paths of a judged schema are equal.
+pub fn equal(t: Schema, a: Path, b: Path) -> bool
+    requires { ⌜ Sound t × SoundPath (t .graph) a × SoundPath (t .graph) b ⌝ }
+    ensures { λ r. ⌜ r ≡ equalPaths (schemaOf t) (pathOf a) (pathOf b) ⌝ }
+{
+    let p = path_table(t);
+    let x = walk::path_number(p, a);
+    let y = walk::path_number(p, b);
+    classes::same_class(&p.class, x, y)
+}

@@ -1,0 +1,107 @@
+// The table of all paths, shortest first: each path is followed by the edges that leave its end.
+use crate::Paths;
+use schema::Graph;
+use schema::Schema;
+use schema::numbers::wide;
+ghost use mathlib.Core.Path.{_≡_};
+ghost use mathlib.Core.Bool.{false};
+ghost use Prim.Native.Nat.{_≤_};
+ghost use Rattle.meaning.specs.Schema.{hasLoop};
+ghost use Rattle.agreement.proofs.Paths.{pathCount};
+ghost use Rattle.schema.specs.Decoded.{graphOf};
+ghost use Rattle.schema.specs.Counted.{Fit};
+ghost use Rattle.paths.specs.Table.{Ranked, Trivial, NextLeaving, Rows};
+
+// For each edge its place among those that leave its source.
+pub fn rank_edges(g: Graph) -> [u8; Schema::EDGES]
+    requires { ⌜ Fit g ⌝ }
+    ensures { λ r. ⌜ Ranked (graphOf g) r ⌝ }
+{
+    let edges = g.edges;
+    let mut seen = [0u8; Schema::NODES];
+    let mut rank = [0u8; Schema::EDGES];
+    let mut e = 0;
+    while e < edges {
+        let node = wide(g.source[e]);
+        let n = seen[node];
+        rank[e] = n;
+        seen[node] = n + 1;
+        e += 1;
+    }
+    rank
+}
+
+// The trivial paths.
+fn trivial_paths(nodes: usize) -> Paths
+    requires { ⌜ nodes ≤ 16 ⌝ }
+    ensures { λ r. ⌜ Trivial nodes r ⌝ }
+{
+    let zeros = [0u8; Schema::PATHS];
+    let mut number = [0u8; Schema::PATHS];
+    let mut first = [0u16; Schema::PATHS + 1];
+    first[0] = nodes as u16;
+    let mut n = 0;
+    while n < nodes {
+        number[n] = n as u8;
+        n += 1;
+    }
+    Paths {
+        count: 0,
+        start: number,
+        end: number,
+        length: zeros,
+        parent: number,
+        last: zeros,
+        class: zeros,
+        first: first,
+        rank: [0u8; Schema::EDGES],
+    }
+}
+
+// The first edge from an edge on that leaves a node, or the number of edges where none does.
+fn next_leaving(g: Graph, node: u8, from: usize) -> usize
+    requires { ⌜ («from» ≤ g .edges) × (g .edges ≤ 32) ⌝ }
+    ensures { λ r. ⌜ NextLeaving (graphOf g) node «from» r ⌝ }
+{
+    let edges = g.edges;
+    let mut k = from;
+    while k < edges {
+        if g.source[k] == node {
+            return k;
+        }
+        k += 1;
+    }
+    k
+}
+
+// All rows: path h is followed by the edges from e on, and the next row is row n.
+pub fn fill(g: Graph, count: usize) -> Paths
+    requires { ⌜ Fit g × (hasLoop (graphOf g) ≡ false) × (count ≡ pathCount (graphOf g)) × (count ≤ 256) ⌝ }
+    ensures { λ r. ⌜ Rows (graphOf g) count r ⌝ }
+{
+    let edges = g.edges;
+    let mut t = trivial_paths(g.nodes);
+    let mut n = g.nodes;
+    let mut h = 0;
+    let mut e = 0;
+    while h < count {
+        let k = next_leaving(g, t.end[h], e);
+        if k < edges {
+            let start = t.start[h];
+            let longer = t.length[h] + 1;
+            let end = g.target[k];
+            t.start[n] = start;
+            t.end[n] = end;
+            t.length[n] = longer;
+            t.parent[n] = h as u8;
+            t.last[n] = k as u8;
+            n += 1;
+            e = k + 1;
+        } else {
+            h += 1;
+            t.first[h] = n as u16;
+            e = 0;
+        }
+    }
+    t
+}
