@@ -2,7 +2,7 @@
 use Prim.Native.Nat.{ℕ, zero, suc, _+_, _<_}
 use mathlib.Core.Path.{_≡_, refl, sym, ap, ap₂, _∙_}
 use mathlib.Core.List.{List, [], _∷_, _++_, map, append-nil}
-use mathlib.Core.Logic.{ite, if-pos}
+use mathlib.Core.Logic.{ite}
 use native.Mathlib.Omega.{arith}
 use native.Mathlib.Decide.{ℕ-discrete}
 use native.Mathlib.Nat.{not-suc-le-zero}
@@ -13,6 +13,7 @@ use borrow.Author.Tests.{eq-eqb, ne-eqb}
 use Rattle.theory.specs.Numbering.{sum}
 use Rattle.theory.specs.Sigma.{share, place}
 use Rattle.theory.proofs.Numbering.{sum-mono}
+use Rattle.theory.proofs.Sigma.{share-own}
 use Rattle.meaning.specs.Lists.{upto, concatMap, consIf}
 use Rattle.meaning.specs.Schema.{Schema}
 use Rattle.meaning.specs.Formats.{Mapping, Instance}
@@ -72,10 +73,6 @@ module _ (S T : Schema) (F : Mapping) (I : Instance) where
   abbrev shareAt : ℕ → ℕ → ℕ
   shareAt d = share (mappingOf S T F) (instanceOf I) d
 
-  share-own : (c : ℕ) → shareAt (nodeImage F c) c ≡ count I c
-  unfolding share
-  share-own c = if-pos (ℕ-discrete (nodeImage F c) (nodeImage F c)) refl (count I c) 0
-
   module _ {A : Type 0} (d : ℕ) (f : ℕ → List A) where
     part-length : (c : ℕ) → (nodeImage F c ≡ d → length (f c) ≡ count I c) → length (part F d f c) ≡ shareAt d c
     unfolding share
@@ -95,7 +92,7 @@ module _ (S T : Schema) (F : Mapping) (I : Instance) where
   fibre-at {A} f z n c x h i l =
       let d = nodeImage F c in
       ap (λ (t : List A). getD t (sum (shareAt d) c + x) z) (fibre-join F d f n)
-      ∙ join-at (part F d f) (shareAt d) z n (λ b k. part-length d f b (h b k)) c x i (rw share-own l)
+      ∙ join-at (part F d f) (shareAt d) z n (λ b k. part-length d f b (h b k)) c x i (rw (share-own (mappingOf S T F) (instanceOf I) c) l)
       ∙ ap (λ (t : List A). getD t x z) (let e : part F d f c ≡ f c = rw (eq-eqb d d refl) (append-nil (f c)) in e)
 
   pub rowsIn-share : (d n : ℕ) → rowsIn I (fibreBelow F n d) ≡ sum (shareAt d) n

@@ -12,16 +12,16 @@ use Rattle.meaning.specs.Judge.{edgeImageFits, attributeImageFits}
 use Rattle.meaning.specs.Views.{nodeImage}
 use Rattle.meaning.proofs.Tabulate.{and-both}
 use Rattle.meaning.proofs.Lists.{upto-all}
+use Rattle.agreement.proofs.Mappings.{Fits}
 use Rattle.schema.specs.declared.Schema.{Schema}
 use Rattle.schema.specs.Decoded.{graphOf, schemaOf, frontOf}
 use Rattle.schema.proofs.GraphEdges.{edges-count, source-at, target-at}
+use Rattle.schema.proofs.SoundSchema.{source-in, target-in}
 use Rattle.mapping.specs.declared.Mapping.{Mapping}
 use Rattle.mapping.specs.Decoded.{mappingOf}
 use Rattle.mapping.proofs.Viewing.{node-at, edge-at}
 use Rattle.mapping.proofs.Fitting.{attributeTest, attributes-test, fits-by}
-use Rattle.agreement.proofs.Mappings.{Fits}
 use Rattle.mapping.proofs.Imaging.{fits}
-use Rattle.instance.proofs.SoundSchema.{source-in, target-in}
 use Rattle.delta.specs.Pulled.{Fitting, edgesOfImage}
 
 -- the image of attribute a is an attribute of T, at the image of a's node

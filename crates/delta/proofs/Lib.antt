@@ -1,4 +1,3 @@
--- Laws of stored columns, of images, and of Delta as a whole.
-pub mod Storing
+-- Laws of images, and of Delta as a whole.
 pub mod Images
 pub mod Pulling

@@ -1,42 +1,33 @@
 -- Delta of decoded tables: its counts, and its links and values column by column.
-use Prim.Native.Nat.{ℕ, zero, suc, _*_, _≤_, _<_}
-use mathlib.Core.Path.{_≡_, refl, sym, ap, _∙_}
+use Prim.Native.Nat.{ℕ, _*_, _≤_, _<_}
+use mathlib.Core.Path.{_≡_, sym, ap, _∙_}
 use mathlib.Core.Bool.{true}
-use mathlib.Core.List.{List, [], _∷_, map}
+use mathlib.Core.List.{List, [], map}
 use native.Mathlib.Omega.{arith}
 use native.Mathlib.Nat.{le-trans}
 use lib.ListN.{length, getD}
-use Rattle.theory.specs.Numbering.{tabulate}
 use Rattle.theory.proofs.Numbering.{tabulate-getD}
 use Rattle.meaning.specs.Lists.{upto}
 use Rattle.meaning.specs.Schema.{source}
 use Rattle.meaning.specs.Formats as meaning
 use Rattle.meaning.specs.Views.{nodeImage, edgeImage, attributeImage, count, column, follow}
 use Rattle.meaning.specs.Judge.{linksInRange}
-use Rattle.meaning.proofs.Tabulate.{tabulate-same, upto-tabulate}
+use Rattle.meaning.proofs.Tabulate.{tabulate-same, tabulate-upto}
 use Rattle.agreement.proofs.Joined.{map-upto-getD}
 use Rattle.schema.specs.declared.Schema.{Schema}
 use Rattle.schema.specs.Decoded.{graphOf, schemaOf}
 use Rattle.schema.proofs.GraphEdges.{edges-count, source-at}
-use Rattle.mapping.specs.declared.Mapping.{Mapping}
-use Rattle.mapping.specs.Decoded.{mappingOf}
-use Rattle.mapping.proofs.Viewing.{node-at, edge-at, attribute-at, attributes-count}
+use Rattle.schema.proofs.SoundSchema.{source-in, home-in}
 use Rattle.instance.specs.declared.Instance.{Instance}
 use Rattle.instance.specs.Decoded.{rowsOf, columnOf, columnsOf, tablesOf, Columns, Limits}
 use Rattle.instance.proofs.Columns.{sumOf-part}
-use Rattle.instance.proofs.SoundSchema.{source-in, home-in}
 use Rattle.instance.proofs.Following.{count-at, Led, led}
-use Rattle.delta.specs.Stored.{Counts, ColumnsStored}
+use Rattle.instance.specs.Stored.{Counts, ColumnsStored}
+use Rattle.mapping.specs.declared.Mapping.{Mapping}
+use Rattle.mapping.specs.Decoded.{mappingOf}
+use Rattle.mapping.proofs.Viewing.{node-at, edge-at, attribute-at, attributes-count}
 use Rattle.delta.specs.Pulled.{Fitting, EdgeImages, edgesOfImage, imageRow, AttributeImages, imageValue, deltaOf, Counted, Pulled}
 use Rattle.delta.proofs.Images.{node-in, edge-joins, end-in, attribute-fits}
-
--- ---- a list given number by number
-map-tabulate : {A B : Type 0} (h : A → B) (n : ℕ) (f : ℕ → A) → map h (tabulate n f) ≡ tabulate n (λ i. h (f i))
-map-tabulate h zero f = refl
-map-tabulate {B = B} h (suc n) f = ap (λ (l : List B). h (f 0) ∷ l) (map-tabulate h n (λ i. f (suc i)))
-
-pub tabulate-upto : {A : Type 0} (n : ℕ) {g f : ℕ → A} → ((i : ℕ) → i < n → g i ≡ f i) → tabulate n g ≡ map f (upto n)
-tabulate-upto n {f = f} h = tabulate-same n h ∙ sym (ap (map f) (upto-tabulate n) ∙ map-tabulate f n (λ i. i))
 
 module _ {s t : Schema} {f : Mapping} {j : Instance} (B : Fitting s t f) (L : Limits t j) where
   rows-few : (c : ℕ) → c < t .graph .nodes → getD (j .counts) c 0 ≤ 512

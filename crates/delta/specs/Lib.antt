@@ -1,3 +1,2 @@
--- What the contracts of Delta say: stored columns, and tables pulled back.
-pub mod Stored
+-- What the contracts of Delta say: tables pulled back.
 pub mod Pulled

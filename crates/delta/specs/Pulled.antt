@@ -11,12 +11,12 @@ use Rattle.meaning.specs.Delta.{delta}
 use Rattle.schema.specs.declared.Schema.{Schema}
 use Rattle.schema.specs.Decoded.{schemaOf, frontOf}
 use Rattle.schema.specs.Judged.{Sound}
-use Rattle.mapping.specs.declared.Mapping.{Mapping}
-use Rattle.mapping.specs.Decoded.{imageOf, noImage, mappingOf, Short}
 use Rattle.instance.specs.declared.Instance.{Instance}
 use Rattle.instance.specs.Decoded.{rowsOf, tablesOf, Columns}
 use Rattle.instance.specs.Followed.{linkIn}
-use Rattle.delta.specs.Stored.{Leads}
+use Rattle.instance.specs.Stored.{Leads}
+use Rattle.mapping.specs.declared.Mapping.{Mapping}
+use Rattle.mapping.specs.Decoded.{imageOf, noImage, mappingOf, Short}
 
 -- S, T and a mapping from S to T that passed test 7
 pub record Fitting (s t : Schema) (f : Mapping) : Type 0 where

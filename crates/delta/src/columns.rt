@@ -3,12 +3,12 @@ use instance::follow::follow;
 use mapping::Image;
 use schema::Schema;
 ghost use Prim.Native.Nat.{_+_, _≤_};
-ghost use lib.ListN.{length, getD};
+ghost use lib.ListN.{length};
 ghost use Rattle.theory.specs.Instance as theory;
-ghost use Rattle.mapping.specs.Decoded.{imageOf};
 ghost use Rattle.instance.specs.Decoded.{rowsOf, Columns};
 ghost use Rattle.instance.specs.Followed.{linkIn};
-ghost use Rattle.delta.specs.Stored.{Counts, Leads, Stored};
+ghost use Rattle.instance.specs.Stored.{Counts, Leads, Stored};
+ghost use Rattle.mapping.specs.Decoded.{imageOf};
 
 // For each of n nodes, the rows of the table at its image.
 pub fn count_column(n: usize, node: &[u8], counts: &[u32]) -> [u32; Schema::NODES]
@@ -35,17 +35,5 @@ pub fn follow_column(links: &[u32], image: Image, rows: usize, out: &mut [u32], 
     while x < rows {
         out[base + x] = follow(links, &edges, n, x) as u32;
         x += 1;
-    }
-}
-
-// A copy of n numbers of an array, from a place on.
-pub fn copy_column(l: &[u32], place: usize, n: usize, out: &mut [u32], base: usize)
-    requires { ⌜ (place + n ≤ length (now l)) × (base + n ≤ length (now out)) ⌝ }
-    ensures { λ _. ⌜ Stored (λ i. getD (now (l .entry)) (place + i) 0) n base (now (out .entry)) (now (out .exit)) ⌝ }
-{
-    let mut i = 0;
-    while i < n {
-        out[base + i] = l[place + i];
-        i += 1;
     }
 }

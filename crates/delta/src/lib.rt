@@ -1,10 +1,10 @@
 // Delta on decoded tables: the table at a node is the one at its image, an edge follows its image path, an attribute copies its image's column.
 pub mod columns;
 
-use columns::copy_column;
 use columns::count_column;
 use columns::follow_column;
 use instance::Instance;
+use instance::copy::copy_column;
 use instance::decode::rows_of;
 use mapping::Mapping;
 use schema::Schema;
@@ -16,7 +16,7 @@ ghost use lib.ListN.{length};
 ghost use Rattle.meaning.specs.Judge.{linksInRange};
 ghost use Rattle.schema.specs.Decoded.{schemaOf};
 ghost use Rattle.instance.specs.Decoded.{rowsOf, tablesOf, Limits, RoomFor};
-ghost use Rattle.delta.specs.Stored.{ColumnsStored};
+ghost use Rattle.instance.specs.Stored.{ColumnsStored};
 ghost use Rattle.delta.specs.Pulled.{Fitting, EdgeImages, imageRow, AttributeImages, imageValue, Counted, Pulled};
 
 // The counts of Delta's tables.

@@ -9,11 +9,11 @@ use lib.ListN.{length, getD}
 use Rattle.bits.specs.Field as bits
 use Rattle.theory.specs.Numbering.{tabulate}
 use Rattle.meaning.specs.Sheet.{fails, reads}
+use Rattle.meaning.specs.Formats.{readPartners}
 use Rattle.meaning.proofs.Reading.{fixed-field, fixed-times}
 use Rattle.meaning.proofs.Tabulate.{tabulate-same}
 use Rattle.schema.specs.Decoded.{frontOf}
-use Rattle.instance.specs.Decoded.{Stored}
-use Rattle.encoding.specs.Matched.{readPartners}
+use Rattle.instance.specs.Stored.{Stored}
 
 module _ (s : List ℕ) (n : ℕ) where
   pub partners-cut : 8 * length s < 9 * n → readPartners n s 0 ≡ fails 1
@@ -22,7 +22,7 @@ module _ (s : List ℕ) (n : ℕ) where
   pub partners-tail : 9 * n ≤ 8 * length s → bits.tailOk s (9 * n) ≡ false → readPartners n s 0 ≡ fails 2
   partners-tail h e = rw (fixed-times n (fixed-field 9) .here s 0 (omega arith), zero-add (9 * n), e)
 
-  pub partners-read : {l r : List ℕ} → Stored s 0 9 n 0 l r → 9 * n ≤ 8 * length s → bits.tailOk s (9 * n) ≡ true → readPartners n s 0 ≡ reads (frontOf n r) (9 * n)
+  pub partners-read : {l r : List ℕ} → Stored (λ i. bits.field s (0 + 9 * i) 9) n 0 l r → 9 * n ≤ 8 * length s → bits.tailOk s (9 * n) ≡ true → readPartners n s 0 ≡ reads (frontOf n r) (9 * n)
   partners-read {r = r} u h e =
       let f : frontOf n r ≡ tabulate n (λ i. bits.field s (0 + 9 * i) 9) = tabulate-same n (λ i l. ap (λ (k : ℕ). getD r k 0) (sym (zero-add i)) ∙ u .each i l) in
       rw (fixed-times n (fixed-field 9) .here s 0 (omega arith), zero-add (9 * n), e, f)

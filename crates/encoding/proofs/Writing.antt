@@ -20,8 +20,8 @@ use Rattle.schema.specs.declared.Schema.{Schema}
 use Rattle.schema.specs.Decoded.{frontOf}
 use Rattle.instance.specs.declared.Instance.{Instance}
 use Rattle.instance.specs.Decoded.{rowsOf, columnOf, columnsOf, tablesOf}
-use Rattle.encoding.specs.Written.{Written, rowsIn, columnFields, sheetBits, sheetBytes}
 use Rattle.instance.proofs.Columns.{sumOf-more}
+use Rattle.encoding.specs.Written.{Written, rowsIn, columnFields, sheetBits, sheetBytes}
 
 pub put-none : (s : List ℕ) (at : ℕ) → s ≡ putAll s at []
 unfolding putAll

@@ -8,9 +8,9 @@ ghost use Prim.Native.Nat.{_*_, _≤_};
 ghost use lib.ListN.{length};
 ghost use Rattle.bits.specs.Field.{bytesFor};
 ghost use Rattle.meaning.specs.Sheet.{onSheet};
-ghost use Rattle.meaning.specs.Formats.{matchingSheet};
+ghost use Rattle.meaning.specs.Formats.{readPartners, matchingSheet};
 ghost use Rattle.schema.specs.Decoded.{frontOf};
-ghost use Rattle.encoding.specs.Matched.{readPartners, judgedPartners};
+ghost use Rattle.encoding.specs.Matched.{judgedPartners};
 ghost use Rattle.encoding.specs.Written.{Written};
 
 // Reads the partners of n rows, and gives 0, or the number with which the sheet is sent back.

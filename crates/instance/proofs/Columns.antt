@@ -5,15 +5,13 @@ use mathlib.Core.List.{List, [], _∷_, _++_}
 use native.Mathlib.Omega.{arith}
 use native.Mathlib.Nat.{mul-suc, mul-add, mul-le-mul-left, not-suc-le-zero, le-trans}
 use native.Mathlib.Numerals.{add-one}
-use borrow.Author.Count.{below-none, below-more}
-use lib.ListN.{length, getD, set, replicate, length-set}
-use lib.Seq.{getD-set-same, getD-set-other}
-use Rattle.bits.specs.Field as bits
+use lib.ListN.{getD, replicate}
 use Rattle.theory.specs.Numbering.{tabulate}
 use Rattle.meaning.specs.Lists.{sumOf}
 use Rattle.meaning.specs.Sheet.{Reader, inTurn}
 use Rattle.meaning.proofs.Tabulate.{tabulate-more, tabulate-same, tabulate-store}
-use Rattle.instance.specs.Decoded.{columnsOf, Stored}
+use Rattle.instance.specs.Decoded.{columnsOf}
+use Rattle.instance.specs.Stored.{Stored}
 
 -- ---- sums
 sumOf-append : (a b : List ℕ) → sumOf (a ++ b) ≡ sumOf a + sumOf b
@@ -58,23 +56,9 @@ column-ends width n rows k l =
     let m : width * (sumOf (tabulate k rows) + rows k) ≤ width * sumOf (tabulate n rows) = mul-le-mul-left width (sumOf-front n rows k l) in
     omega (arith, mul-add width (sumOf (tabulate k rows)) (rows k))
 
--- ---- fields stored in an array
-pub stored-none : (s : List ℕ) (at width base : ℕ) (l : List ℕ) → Stored s at width 0 base l l
-stored-none s at width base l = record { each = below-none _; below = λ k h. refl; long = refl }
-
-pub stored-more : {s : List ℕ} {at width i base : ℕ} {l r : List ℕ} {v : ℕ} → Stored s at width i base l r → base + i < length r → v ≡ bits.field s (at + width * i) width
-    → Stored s at width (i + 1) base l (set r (base + i) v)
-stored-more {s} {at} {width} {i} {base} {l} {r} {v} u h e = record {
-  each = below-more (λ k. getD (set r (base + i) v) (base + k) 0 ≡ bits.field s (at + width * k) width) i
-      (λ k m. getD-set-other r (base + i) (base + k) v 0 (λ q. let z : base + k ≡ base + i = q in omega arith) ∙ u .each k m)
-      (getD-set-same r (base + i) v 0 h ∙ e);
-  below = λ k m. getD-set-other r (base + i) k v 0 (λ q. let z : k ≡ base + i = q in omega arith) ∙ u .below k m;
-  long = length-set r (base + i) v ∙ u .long;
-}
-
--- one column more
-module _ (rows : ℕ → ℕ) (k p width : ℕ) {s l r : List ℕ} (few : (j : ℕ) → j < k → rows j ≤ 512) where
-  pub columns-more : Stored s p width (rows k) (512 * k) l r → columnsOf (k + 1) rows r ≡ columnsOf k rows l ++ (tabulate (rows k) (λ i. bits.field s (p + width * i) width) ∷ [])
+-- ---- one column more
+module _ (rows : ℕ → ℕ) (k : ℕ) {g : ℕ → ℕ} {l r : List ℕ} (few : (j : ℕ) → j < k → rows j ≤ 512) where
+  pub columns-more : Stored g (rows k) (512 * k) l r → columnsOf (k + 1) rows r ≡ columnsOf k rows l ++ (tabulate (rows k) g ∷ [])
   columns-more u =
       tabulate-store k
       (λ j h. tabulate-same (rows j) (λ i m. u .below (512 * j + i) (let z = few j h in omega arith)))

@@ -1,5 +1,5 @@
 -- What the readers of an instance sheet give, step by step.
-use Prim.Native.Nat.{ℕ, suc, _+_, _*_, _≤_, _<_}
+use Prim.Native.Nat.{ℕ, suc, _*_, _≤_, _<_}
 use mathlib.Core.Path.{_≡_, refl, sym, ap, _∙_}
 use mathlib.Core.Bool.{true, false}
 use mathlib.Core.List.{List}
@@ -8,21 +8,19 @@ use native.Mathlib.Nat.{zero-add, le-trans}
 use borrow.Author.Tests.{le-leb, lt-leb, ne-eqb}
 use lib.ListN.{length, getD}
 use Rattle.bits.specs.Field as bits
-use Rattle.theory.specs.Numbering.{tabulate}
 use Rattle.theory.proofs.Numbering.{tabulate-getD}
 use Rattle.meaning.specs.Lists.{sumOf}
 use Rattle.meaning.specs.Sheet.{Read, Reader, Judged, faulty, fails, reads, times, field}
 use Rattle.meaning.specs.Schema as meaning
 use Rattle.meaning.specs.Formats.{Instance, readLinks, readValues, readTables, readInstance}
 use Rattle.meaning.proofs.Reading.{fixed-field, fixed-times}
-use Rattle.meaning.proofs.Tabulate.{tabulate-same}
 use Rattle.schema.specs.declared.Schema.{Schema}
 use Rattle.schema.specs.Decoded.{schemaOf, frontOf}
 use Rattle.schema.specs.Judged.{Sound}
+use Rattle.schema.proofs.SoundSchema.{source-in, target-in, home-in}
 use Rattle.instance.specs.declared.Instance as declared
 use Rattle.instance.specs.declared.decode.ColumnsRead.{ColumnsRead}
-use Rattle.instance.specs.Decoded.{countsIn, rowsOf, tablesOf, readColumns, emptyInstance, Stored, Says, Columns, ColumnsTaken}
-use Rattle.instance.proofs.SoundSchema.{source-in, target-in, home-in}
+use Rattle.instance.specs.Decoded.{countsIn, rowsOf, tablesOf, readColumns, emptyInstance, Says, Columns, ColumnsTaken}
 use Rattle.instance.proofs.Columns.{inTurn-same, sumOf-none, sumOf-part, none-stands}
 
 pub faulty-says : (t : Schema) {i : declared.Instance} (links values : List ℕ) {k : ℕ} {J : Judged Instance} → i ≡ emptyInstance (suc k) → J ≡ faulty (suc k) → Says t i links values J

@@ -22,12 +22,12 @@ use Rattle.schema.specs.declared.Schema.{Schema}
 use Rattle.schema.specs.Decoded.{graphOf, pathOf, noPath, equationOf, schemaOf}
 use Rattle.schema.specs.Judged.{Sound}
 use Rattle.schema.proofs.GraphEdges.{edges-count, source-at, target-at}
+use Rattle.schema.proofs.SoundSchema.{source-in, target-in, sides-at}
 use Rattle.instance.specs.declared.Instance as declared
 use Rattle.instance.specs.Decoded.{rowsOf, columnOf, tablesOf, Limits}
 use Rattle.instance.specs.Tested.{linkTest, valueTest}
 use Rattle.instance.specs.Followed.{linkIn, Stays, Followable, agreeOn}
 use Rattle.instance.proofs.Columns.{sumOf-part}
-use Rattle.instance.proofs.SoundSchema.{source-in, target-in, sides-at}
 
 -- the two sides of an equation lead each row to the same row
 abbrev pub equationTest : Instance → Equation → Bool
@@ -120,10 +120,10 @@ module _ (t : Schema) (A : Sound t) (i : declared.Instance) (links values : List
         let e : rows I (p .start) ≡ tabulate n (λ r. r) = ap upto (count-at (p .start) (S .start-in)) ∙ upto-tabulate n in
         ap (all (λ r. eqb (follow I (pathOf p .edges) r) (follow I (pathOf q .edges) r))) e
         ∙ all-same _ _ n (λ r. r) (λ r. r)
-        (λ r h. ap₂ eqb (sym (led (p .start) (pathOf p .edges) r (S .left) h .same)) (sym (led (q .start) (pathOf q .edges) r (S .right) (rw (← S .one-start) h) .same)))
+        (λ r h. ap₂ eqb (sym (led (p .start) (pathOf p .edges) r (S .left-joins) h .same)) (sym (led (q .start) (pathOf q .edges) r (S .right-joins) (rw (← S .one-start) h) .same)))
 
     pub left-followable : (k : ℕ) → k < t .equations → Followable links (pathOf (getD (t .left) k noPath) .edges) (getD (i .counts) (getD (t .left) k noPath .start) 0)
-    left-followable k l = let S = sides-at t A k l in record { stays = λ r h. led (getD (t .left) k noPath .start) (pathOf (getD (t .left) k noPath) .edges) r (S .left) h .stays }
+    left-followable k l = let S = sides-at t A k l in record { stays = λ r h. led (getD (t .left) k noPath .start) (pathOf (getD (t .left) k noPath) .edges) r (S .left-joins) h .stays }
 
     pub right-followable : (k : ℕ) → k < t .equations → Followable links (pathOf (getD (t .right) k noPath) .edges) (getD (i .counts) (getD (t .left) k noPath .start) 0)
-    right-followable k l = let S = sides-at t A k l in record { stays = λ r h. led (getD (t .right) k noPath .start) (pathOf (getD (t .right) k noPath) .edges) r (S .right) (rw (← S .one-start) h) .stays }
+    right-followable k l = let S = sides-at t A k l in record { stays = λ r h. led (getD (t .right) k noPath .start) (pathOf (getD (t .right) k noPath) .edges) r (S .right-joins) (rw (← S .one-start) h) .stays }

@@ -8,12 +8,12 @@ use borrow.Author.Tests.{eq-eqb, ne-eqb}
 use Rattle.meaning.specs.Sheet.{Judged, faulty, onSheet}
 use Rattle.meaning.specs.Formats as formats
 use Rattle.meaning.specs.Formats.{kinds, readInstance}
-use Rattle.meaning.specs.Judge.{_>>=_, linksInRange, valuesInRange, obeysEquations, judgeInstance}
+use Rattle.meaning.specs.Judge.{_>>=_, linksInRange, valuesInRange, obeysEquations, testInstance, judgeInstance}
 use Rattle.schema.specs.declared.Schema.{Schema}
 use Rattle.schema.specs.Decoded.{schemaOf}
 use Rattle.instance.specs.declared.Instance.{Instance}
 use Rattle.instance.specs.Decoded.{tablesOf, emptyInstance, Says, Limits}
-use Rattle.instance.specs.Tested.{testInstance, Tested}
+use Rattle.instance.specs.Tested.{Tested}
 use Rattle.instance.proofs.Decoding.{faulty-says}
 
 pub faulty-tested : (t : Schema) {i : Instance} (links values : List ℕ) {k : ℕ} {J : Judged formats.Instance} → i ≡ emptyInstance (suc k) → J ≡ faulty (suc k) → Tested t i links values J

@@ -1,6 +1,6 @@
--- Laws of columns in working arrays, of the tests of an instance, and what the walks of the table list share.
+-- Laws of what is stored in working arrays, of the tests of an instance, and what the walks of the table list share.
+pub mod Storing
 pub mod Columns
-pub mod SoundSchema
 pub mod Decoding
 pub mod Following
 pub mod Walking

@@ -67,12 +67,6 @@ pub record Fields (s : List ℕ) (at width n : ℕ) : Type 0 where
   pub counted : at + width * n < 2 ^ 64
   pub within : at + width * n ≤ 8 * length s
 
--- they are stored in l from base on, which gives r
-pub record Stored (s : List ℕ) (at width n base : ℕ) (l r : List ℕ) : Type 0 where
-  pub each : (i : ℕ) → i < n → getD r (base + i) 0 ≡ bits.field s (at + width * i) width
-  pub below : (k : ℕ) → k < base → getD r k 0 ≡ getD l k 0
-  pub long : length r ≡ length l
-
 -- the leading counts of n tables
 abbrev pub countsIn : ℕ → List ℕ → List ℕ
 countsIn n s = tabulate n (λ i. bits.field s (0 + 10 * i) 10)

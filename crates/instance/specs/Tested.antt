@@ -6,11 +6,10 @@ use mathlib.Core.List.{List}
 use lib.Dec.{ltb}
 use lib.ListN.{getD}
 use Rattle.meaning.specs.Lists.{all}
-use Rattle.meaning.specs.Sheet.{Judged, sound}
-use Rattle.meaning.specs.Schema as meaning
+use Rattle.meaning.specs.Sheet.{Judged}
 use Rattle.meaning.specs.Formats as formats
 use Rattle.meaning.specs.Formats.{kinds, inRange}
-use Rattle.meaning.specs.Judge.{_>>=_, ensure, linksInRange, valuesInRange, obeysEquations}
+use Rattle.meaning.specs.Judge.{linksInRange, valuesInRange, obeysEquations}
 use Rattle.schema.specs.declared.Schema.{Schema}
 use Rattle.schema.specs.Decoded.{schemaOf}
 use Rattle.instance.specs.declared.Instance.{Instance}
@@ -25,14 +24,6 @@ abbrev pub valueTest : List ℕ → List ℕ → List ℕ → List ℕ → List 
 valueTest node kind counts values ks a = all (inRange ks (getD kind a 0)) (columnOf values (512 * a) (rowsOf node counts a))
 
 -- ---- of a whole instance
-
--- 9, then 10, then 11
-abbrev pub testInstance : meaning.Schema → formats.Instance → Judged formats.Instance
-testInstance S I = do
-  _ ← ensure (linksInRange S I) 9
-  _ ← ensure (valuesInRange kinds S I) 10
-  _ ← ensure (obeysEquations S I) 11
-  sound I
 
 -- what the code that works on an accepted instance relies on
 pub record Accepted (t : Schema) (i : Instance) (links values : List ℕ) : Type 0 where

@@ -13,7 +13,8 @@ ghost use Rattle.meaning.specs.Sheet.{onSheet, judged};
 ghost use Rattle.meaning.specs.Formats.{readTables, readInstance};
 ghost use Rattle.schema.specs.Decoded.{Near, schemaOf, frontOf};
 ghost use Rattle.schema.specs.Judged.{Sound};
-ghost use Rattle.instance.specs.Decoded.{countsIn, rowsOf, Fields, Stored, Columns, ColumnsTaken, RoomFor, Says};
+ghost use Rattle.instance.specs.Decoded.{countsIn, rowsOf, Fields, Columns, ColumnsTaken, RoomFor, Says};
+ghost use Rattle.instance.specs.Stored.{Stored};
 
 // A number of 32 bits as an index.
 pub fn wide(x: u32) -> usize
@@ -39,7 +40,7 @@ fn number(s: &[u8], at: usize, width: usize) -> u32
 // n fields of one width, stored from base on.
 pub fn read_column(s: &[u8], at: usize, width: usize, n: usize, out: &mut [u32], base: usize)
     requires { ⌜ Fields (now s) at width n × (base + n ≤ length (now out)) ⌝ }
-    ensures { λ _. ⌜ Stored (now (s .entry)) at width n base (now (out .entry)) (now (out .exit)) ⌝ }
+    ensures { λ _. ⌜ Stored (λ i. field (now (s .entry)) (at + width * i) width) n base (now (out .entry)) (now (out .exit)) ⌝ }
 {
     let mut i = 0;
     let mut p = at;

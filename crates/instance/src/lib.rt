@@ -1,4 +1,5 @@
 // Instances: the judge of an instance sheet, and what stands in its working arrays.
+pub mod copy;
 pub mod decode;
 pub mod follow;
 pub mod kinds;
@@ -7,11 +8,11 @@ pub mod tables;
 
 use schema::Schema;
 ghost use mathlib.Core.Path.{_≡_};
-ghost use Rattle.meaning.specs.Judge.{judgeInstance};
+ghost use Rattle.meaning.specs.Judge.{testInstance, judgeInstance};
 ghost use Rattle.schema.specs.Decoded.{schemaOf};
 ghost use Rattle.schema.specs.Judged.{Sound};
 ghost use Rattle.instance.specs.Decoded.{emptyInstance, hasFewColumns, tablesOf, Limits, RoomFor};
-ghost use Rattle.instance.specs.Tested.{testInstance, Tested};
+ghost use Rattle.instance.specs.Tested.{Tested};
 
 // What an instance sheet says, but for links and values, which stand in lent arrays: the link of row r along edge e at 512 * e + r,
 // the value of attribute a at 512 * a + r. Fault is 0, or the number with which the sheet is sent back.

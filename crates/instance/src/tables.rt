@@ -14,7 +14,7 @@ pub struct Table {
 }
 
 // The table list of the first n counts.
-pub fn layout(counts: &[u32], n: usize) -> [Table; Schema::NODES]
+pub fn table_list(counts: &[u32], n: usize) -> [Table; Schema::NODES]
     requires { ⌜ (n ≤ 16) × (n ≤ length (now counts)) ⌝ }
     ensures { λ r. ⌜ tableListOf n r ≡ tablesFrom 0 (frontOf n (now (counts .entry))) ⌝ }
 {

@@ -16,9 +16,9 @@ use Rattle.schema.specs.declared.Schema.{Schema}
 use Rattle.schema.specs.Decoded.{schemaOf}
 use Rattle.mapping.specs.declared.Mapping.{Mapping}
 use Rattle.mapping.specs.Decoded.{mappingOf}
-use Rattle.lifts.specs.Even.{isOver}
 use Rattle.mapping.proofs.Viewing.{attribute-at, attributes-count, attribute-is}
 use Rattle.mapping.proofs.Counting.{filter-filter, filter-same}
+use Rattle.lifts.specs.Even.{isOver}
 
 module _ (s : Schema) (f : Mapping) where
   abbrev S : meaning.Schema

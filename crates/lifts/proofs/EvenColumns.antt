@@ -13,15 +13,15 @@ use Rattle.meaning.specs.Views.{nodeImage}
 use Rattle.meaning.specs.Evenness.{attributesAt, attributesOver, evenAt, even}
 use Rattle.meaning.proofs.Tabulate.{all-upto-same}
 use Rattle.schema.specs.declared.Schema.{Schema}
-use Rattle.paths.specs.declared.Paths.{Paths}
 use Rattle.schema.specs.Decoded.{schemaOf}
+use Rattle.paths.specs.declared.Paths.{Paths}
 use Rattle.paths.specs.Table.{Filled}
 use Rattle.mapping.specs.declared.Mapping.{Mapping}
 use Rattle.mapping.specs.Decoded.{mappingOf}
 use Rattle.mapping.specs.Judged.{Schemas, Sound, sideClass}
-use Rattle.lifts.specs.Even.{evenColumnAt, evenColumnsAt, evenPathsAt}
 use Rattle.mapping.proofs.Viewing.{node-at, attributes-count, attribute-is}
 use Rattle.mapping.proofs.Counting.{all-filter, all-both}
+use Rattle.lifts.specs.Even.{evenColumnAt, evenColumnsAt, evenPathsAt}
 use Rattle.lifts.proofs.Columns.{attributes-over}
 use Rattle.lifts.proofs.EvenPaths.{even-paths}
 

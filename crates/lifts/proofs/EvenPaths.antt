@@ -7,42 +7,34 @@ use native.Mathlib.Omega.{arith}
 use borrow.Author.Tests.{eq-eqb, eqb-true}
 use lib.ListN.{getD}
 use lib.Dec.{eqb}
-use Rattle.theory.specs.Schema.{IsPath}
 use Rattle.meaning.specs.Lists.{upto, all}
 use Rattle.meaning.specs.Schema as meaning
 use Rattle.meaning.specs.Schema.{Path, pathsFrom}
 use Rattle.meaning.specs.PathEquality.{classOf, classes, equal}
 use Rattle.meaning.specs.Formats as formats
 use Rattle.meaning.specs.Views.{nodeImage, pathImage}
-use Rattle.meaning.specs.Views as views
 use Rattle.meaning.specs.Evenness.{lifts, oneClass}
 use Rattle.meaning.proofs.Tabulate.{and-both}
-use Rattle.meaning.proofs.Lists.{no-bool, and-intro, filter-in, filter-of, all-in, all-of, all-upto, upto-all}
-use Rattle.agreement.proofs.Paths.{pathCount, numberOf, pathAt, number-in, number-path, number-at, pathAt-in, allPaths-each, pathsFrom-each}
-use Rattle.agreement.proofs.Classes.{classes-is}
+use Rattle.meaning.proofs.Lists.{no-bool, and-intro, both-ways, filter-in, filter-of, all-in, all-of, all-upto, upto-all}
+use Rattle.agreement.proofs.Paths.{pathAt, pathsFrom-each}
 use Rattle.agreement.proofs.Evenness.{oneClass-some, oneClass-same, same-oneClass}
 use Rattle.schema.specs.declared.Schema.{Schema}
-use Rattle.paths.specs.declared.Paths.{Paths}
-use Rattle.schema.specs.Decoded.{graphOf, schemaOf}
+use Rattle.schema.specs.Decoded.{schemaOf}
 use Rattle.schema.specs.Judged as schemas
+use Rattle.paths.specs.declared.Paths.{Paths}
 use Rattle.paths.specs.Table.{Filled}
-use Rattle.paths.specs.Classes.{IsPaths}
+use Rattle.paths.proofs.TablePaths.{formed, class-at, class-low, from-table, numbered}
 use Rattle.mapping.specs.declared.Mapping.{Mapping}
 use Rattle.mapping.specs.Decoded.{mappingOf}
 use Rattle.mapping.specs.Judged.{Schemas, Imageable, Sound, sideClass}
-use Rattle.lifts.specs.Even.{liftClasses, uniqueAt, hasLiftAt, evenPathsAt}
 use Rattle.mapping.proofs.Viewing.{node-at}
 use Rattle.mapping.proofs.Imaging.{image-path, image-below}
-use Rattle.mapping.proofs.ImageTable.{formed, images}
+use Rattle.mapping.proofs.ImageTable.{images}
 use Rattle.mapping.proofs.Sides.{image-class}
+use Rattle.lifts.specs.Even.{liftClasses, uniqueAt, hasLiftAt, evenPathsAt}
 use Rattle.lifts.proofs.Lifting.{lifts-some, lifts-every}
 
 -- ---- tests
-pub both-ways : (a b : Bool) → (a ≡ true → b ≡ true) → (b ≡ true → a ≡ true) → a ≡ b
-both-ways true b h k = sym (h refl)
-both-ways false true h k = k refl
-both-ways false false h k = refl
-
 cond-is : (a b : Bool) → (a ≡ true → b ≡ true) → cond a b true ≡ true
 cond-is true b h = h refl
 cond-is false b h = refl
@@ -54,43 +46,6 @@ not-is false h = refl
 is-not : (a : Bool) → not a ≡ true → a ≡ true → ⊥
 is-not true h e = no-bool (sym h)
 is-not false h e = no-bool (sym e)
-
--- ---- a schema's table of paths
-module _ {s : Schema} {p : Paths} (sound : schemas.Sound s) (t : IsPaths (schemaOf s) p) where
-  abbrev G : meaning.Graph
-  G = graphOf (s .graph)
-
-  counted : (i : ℕ) → i < p .count → i < pathCount G
-  counted i l = let e = t .table .counted in omega arith
-
-  pub class-at : (i : ℕ) → i < p .count → getD (p .class) i 0 ≡ classOf (schemaOf s) (pathAt G i)
-  class-at i l = t .class .each i l ∙ ap (λ (n : ℕ). getD (classes (schemaOf s)) n 0) (sym (number-at G i (counted i l)))
-
-  pub class-low : (i : ℕ) → i < p .count → getD (p .class) i 0 < 256
-  class-low i l =
-      let a = classes-is (schemaOf s) (formed sound) .classified .lower i (counted i l) in
-      let b = t .table .few in
-      omega (arith, t .class .each i l)
-
-  -- the paths from c are those that start there by the table
-  pub from-table : (c i : ℕ) → c < s .graph .nodes → i < p .count → getD (p .start) i 0 ≡ c → List·Memᴰ (pathAt G i) (pathsFrom G c)
-  from-table c i h l e =
-      let q : pathAt G i .start ≡ c = sym (t .table .columns .start .each i l) ∙ e in
-      let w = allPaths-each (schemaOf s) (formed sound) (pathAt G i) .0 (pathAt-in G i (counted i l)) in
-      pathsFrom-each (schemaOf s) (formed sound) c h (pathAt G i) .1 (q, subst (λ (n : ℕ). IsPath (views.schemaOf (schemaOf s)) n (pathAt G i .edges)) q w)
-
-  pub record Numbered (c : ℕ) (q : Path) : Type 0 where
-    pub number : ℕ
-    pub below : number < p .count
-    pub is : pathAt G number ≡ q
-    pub starts : getD (p .start) number 0 ≡ c
-
-  pub numbered : (c : ℕ) → c < s .graph .nodes → (q : Path) → List·Memᴰ q (pathsFrom G c) → Numbered c q
-  numbered c h q m =
-      let k = pathsFrom-each (schemaOf s) (formed sound) c h q .0 m in
-      let w = allPaths-each (schemaOf s) (formed sound) q .1 (subst (λ (n : ℕ). IsPath (views.schemaOf (schemaOf s)) n (q .edges)) (sym (k .0)) (k .1)) in
-      let l : numberOf G q < p .count = omega (arith, number-in G w, t .table .counted) in
-      record { number = numberOf G q; below = l; is = number-path G w; starts = t .table .columns .start .each (numberOf G q) l ∙ ap (λ (x : Path). x .start) (number-path G w) ∙ k .0 }
 
 -- ---- both tables
 module _ {s t : Schema} {source-paths target-paths : Paths} {f : Mapping} (h : Schemas s t source-paths target-paths) (k : Sound s t source-paths f) {over : List ℕ} (o : Filled 256 (sideClass (f .path) (target-paths .class)) 256 over) where

@@ -14,8 +14,8 @@ use Rattle.schema.specs.declared.Schema.{Schema}
 use Rattle.schema.specs.Decoded.{schemaOf}
 use Rattle.mapping.specs.declared.Mapping.{Mapping}
 use Rattle.mapping.specs.Decoded.{mappingOf}
-use Rattle.lifts.specs.Lifts.{joinedBefore}
 use Rattle.mapping.proofs.Viewing.{node-at}
+use Rattle.lifts.specs.Lifts.{joinedBefore}
 
 rows-append : (I : Instance) (l k : List ℕ) → rowsIn I (l ++ k) ≡ rowsIn I l + rowsIn I k
 rows-append I [] k = omega arith

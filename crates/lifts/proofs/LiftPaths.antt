@@ -1,66 +1,43 @@
 -- Lifts by the tables of paths: those of a class at c are the numbers at which two arrays have c and the class, and the lift of an edge is the first.
 use Prim.Native.Nat.{ℕ, _+_, _<_, _≤_}
-use mathlib.Core.Path.{_≡_, refl, sym, ap, _∙_, subst}
-use mathlib.Core.Bool.{Bool, true, false, _&&_}
-use mathlib.Core.List.{List, [], _∷_, _++_, map, List·Memᴰ, List·Memᴰ·head, List·Memᴰ·tail}
-use mathlib.Core.Logic.{inl, inr}
+use mathlib.Core.Path.{_≡_, refl, sym, ap, _∙_}
+use mathlib.Core.Bool.{Bool, _&&_}
+use mathlib.Core.List.{List, [], _∷_, _++_, map, List·Memᴰ, List·Memᴰ·head}
 use native.Mathlib.Omega.{arith}
-use borrow.Author.Tests.{eq-eqb, eqb-true}
-use lib.ListN.{length, getD, length-map}
-use lib.Seq.{ext-getD}
+use lib.ListN.{getD}
 use lib.Dec.{eqb}
-use Rattle.theory.specs.Schema.{IsPath, PathBefore}
-use Rattle.theory.specs.Pi.{Sorted}
-use Rattle.meaning.specs.Lists.{upto, filter, consIf, headOr}
+use Rattle.meaning.specs.Lists.{upto, filter, headOr}
 use Rattle.meaning.specs.Schema as meaning
-use Rattle.meaning.specs.Schema.{Path, path, source, end, allPaths, pathsFrom}
+use Rattle.meaning.specs.Schema.{Path, path, source, end, allPaths}
 use Rattle.meaning.specs.PathEquality.{classOf, equal}
 use Rattle.meaning.specs.Formats as formats
 use Rattle.meaning.specs.Views.{nodeImage, pathImage}
-use Rattle.meaning.specs.Views as views
 use Rattle.meaning.specs.Evenness.{lifts}
 use Rattle.meaning.specs.Sigma.{lift}
-use Rattle.theory.proofs.Order.{sorted-one}
-use Rattle.meaning.proofs.Lists.{filter-in, filter-of, of-upto, upto-length, upto-getD, getD-map, sorted-filter}
-use Rattle.agreement.proofs.Paths.{WellFormed, pathCount, numberOf, pathAt, number-at, allPaths-each, pathsFrom-each, Before, before-asymmetric, allPaths-sorted, pathsFrom-sorted}
+use Rattle.meaning.proofs.Lists.{filter-of, filter-place, of-upto}
+use Rattle.agreement.proofs.Paths.{pathCount, numberOf, pathAt, number-at}
 use Rattle.schema.specs.declared.Schema.{Schema}
-use Rattle.paths.specs.declared.Paths.{Paths}
 use Rattle.schema.specs.Decoded.{graphOf, schemaOf}
+use Rattle.schema.proofs.GraphEdges.{edges-count, source-at}
+use Rattle.paths.specs.declared.Paths.{Paths}
 use Rattle.paths.specs.Table.{Filled}
 use Rattle.paths.specs.PathNumbers.{endOf, firstOf, rankOf}
-use Rattle.schema.proofs.GraphEdges.{edges-count, source-at}
 use Rattle.paths.proofs.PathNumbers.{trivial-at, trivial-count, next-at}
+use Rattle.paths.proofs.TablePaths.{formed, paths-from, class-at}
 use Rattle.mapping.specs.declared.Mapping.{Mapping}
 use Rattle.mapping.specs.Decoded.{mappingOf}
 use Rattle.mapping.specs.Judged.{Schemas, Imageable, Sound, sideClass}
+use Rattle.mapping.proofs.Viewing.{node-at}
+use Rattle.mapping.proofs.ImageTable.{images}
+use Rattle.mapping.proofs.Counting.{filter-filter, filter-same}
 use Rattle.lifts.specs.Even.{isOver}
 use Rattle.lifts.specs.Lifts.{IsLift}
-use Rattle.mapping.proofs.Viewing.{node-at}
-use Rattle.mapping.proofs.ImageTable.{formed, images}
-use Rattle.mapping.proofs.Counting.{filter-filter, filter-same}
-use Rattle.lifts.proofs.EvenPaths.{class-at, over-at}
+use Rattle.lifts.proofs.EvenPaths.{over-at}
 
--- ---- a list by its places
 module _ {A B : Type 0} where
-  filter-map : (f : B → Bool) (g : A → B) (l : List A) → filter f (map g l) ≡ map g (filter (λ x. f (g x)) l)
-  filter-map f g [] = refl
-  filter-map f g (x ∷ l) = go (f (g x)) (filter-map f g l)
-    where
-      go : (b : Bool) → filter f (map g l) ≡ map g (filter (λ y. f (g y)) l) → consIf b (g x) (filter f (map g l)) ≡ map g (consIf b x (filter (λ y. f (g y)) l))
-      go true e = ap (λ (k : List B). g x ∷ k) e
-      go false e = e
-
   headOr-map : (g : A → B) (d : A) (l : List A) → headOr (g d) (map g l) ≡ g (headOr d l)
   headOr-map g d [] = refl
   headOr-map g d (x ∷ l) = refl
-
-module _ {A : Type 0} (l : List A) (d : A) where
-  by-place : l ≡ map (λ i. getD l i d) (upto (length l))
-  by-place = ext-getD d l (map (λ i. getD l i d) (upto (length l))) (sym (length-map (upto (length l)) (λ i. getD l i d) ∙ upto-length (length l))) (λ i h.
-      sym (getD-map (λ i. getD l i d) (upto (length l)) 0 d i (rw (upto-length (length l)) h) ∙ ap (λ (j : ℕ). getD l j d) (upto-getD (length l) i 0 h)))
-
-  pub filter-place : (f : A → Bool) → filter f l ≡ map (λ i. getD l i d) (filter (λ i. f (getD l i d)) (upto (length l)))
-  filter-place f = ap (filter f) by-place ∙ filter-map f (λ i. getD l i d) (upto (length l))
 
 -- the first of the numbers below n that pass a test, or d
 pub headOr-below : (n b d : ℕ) (f : ℕ → Bool) → n ≤ b → d < b → headOr d (filter f (upto n)) < b
@@ -69,28 +46,6 @@ headOr-below n b d f h z = go (filter f (upto n)) (λ x m. of-upto n (filter-of 
     go : (l : List ℕ) → ((x : ℕ) → List·Memᴰ x l → x < n) → headOr d l < b
     go [] k = z
     go (x ∷ l) k = omega (arith, k x (List·Memᴰ·head refl))
-
--- ---- the paths from c among all paths
-module _ (S : meaning.Schema) (f : WellFormed S) (c : ℕ) (h : c < S .graph .nodes) where
-  from-start : (p : Path) → List·Memᴰ p (pathsFrom (S .graph) c) → p .start ≡ c
-  from-start p m = pathsFrom-each S f c h p .0 m .0
-
-  sorted-from : (l : List Path) → ((p : Path) → List·Memᴰ p l → p .start ≡ c) → Sorted (λ p q. PathBefore (p .edges) (q .edges)) l → Sorted Before l
-  sorted-from [] k o = tt
-  sorted-from (p ∷ l) k o = (λ q m. go q m (o .0 q m), sorted-from l (λ q m. k q (List·Memᴰ·tail m)) (o .1))
-    where
-      go : (q : Path) → List·Memᴰ q l → PathBefore (p .edges) (q .edges) → Before p q
-      go q m (inl a) = inl a
-      go q m (inr a) = inr (a .0, inr (k p (List·Memᴰ·head refl) ∙ sym (k q (List·Memᴰ·tail m)), a .1))
-
-  pub paths-from : pathsFrom (S .graph) c ≡ filter (λ p. eqb (p .start) c) (allPaths (S .graph))
-  paths-from = sorted-one Before before-asymmetric (pathsFrom (S .graph) c) (filter (λ p. eqb (p .start) c) (allPaths (S .graph)))
-      (sorted-from (pathsFrom (S .graph) c) from-start (pathsFrom-sorted (S .graph) c)) (sorted-filter Before (λ p. eqb (p .start) c) (allPaths (S .graph)) (allPaths-sorted (S .graph)))
-      (λ p m. let k = pathsFrom-each S f c h p .0 m in filter-in (λ p. eqb (p .start) c) (allPaths (S .graph)) (allPaths-each S f p .1 (subst (λ (n : ℕ). IsPath (views.schemaOf S) n (p .edges)) (sym (k .0)) (k .1))) (eq-eqb (p .start) c (k .0)))
-      (λ p m.
-      let k = filter-of (λ p. eqb (p .start) c) (allPaths (S .graph)) m in
-      let e = eqb-true (p .start) c (k .1) in
-      pathsFrom-each S f c h p .1 (e, subst (λ (n : ℕ). IsPath (views.schemaOf S) n (p .edges)) e (allPaths-each S f p .0 (k .0))))
 
 -- ---- lifts
 module _ {s t : Schema} {source-paths target-paths : Paths} {f : Mapping} (h : Schemas s t source-paths target-paths) (k : Sound s t source-paths f) {over : List ℕ} (o : Filled 256 (sideClass (f .path) (target-paths .class)) 256 over) (c : ℕ) (l : c < s .graph .nodes) where

@@ -8,8 +8,8 @@ use lib.Dec.{eqb}
 use Rattle.meaning.specs.Sigma.{lift}
 use Rattle.agreement.proofs.Paths.{numberOf, pathAt}
 use Rattle.schema.specs.declared.Schema.{Schema}
-use Rattle.paths.specs.declared.Paths.{Paths}
 use Rattle.schema.specs.Decoded.{graphOf, schemaOf}
+use Rattle.paths.specs.declared.Paths.{Paths}
 use Rattle.mapping.specs.declared.Mapping.{Mapping}
 use Rattle.mapping.specs.Decoded.{mappingOf}
 

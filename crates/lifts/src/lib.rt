@@ -12,8 +12,8 @@ ghost use mathlib.Core.Path.{_≡_};
 ghost use Prim.Native.Nat.{_+_, _*_, _≤_, _<_};
 ghost use lib.ListN.{getD, length};
 ghost use Rattle.meaning.specs.Lists.{upto, filter, headOr};
-ghost use Rattle.lifts.specs.Even.{isOver};
 ghost use Rattle.mapping.specs.Judged.{Schemas, Sound};
+ghost use Rattle.lifts.specs.Even.{isOver};
 ghost use Rattle.lifts.specs.Lifts.{EdgeLifts, joinedBefore};
 
 // The first of n numbers at which home has c and image has b, or the number none.

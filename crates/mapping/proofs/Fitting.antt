@@ -15,8 +15,7 @@ use Rattle.schema.specs.declared.Schema.{Schema}
 use Rattle.schema.specs.Decoded.{graphOf, schemaOf, frontOf}
 use Rattle.schema.specs.Judged.{Sound}
 use Rattle.schema.proofs.GraphEdges.{edges-count, source-at, target-at}
-use Rattle.schema.proofs.Judging.{fit}
-use Rattle.agreement.proofs.Paths.{schema-is}
+use Rattle.schema.proofs.SoundSchema.{source-in, target-in, home-in}
 use Rattle.mapping.specs.declared.Mapping.{Mapping}
 use Rattle.mapping.specs.Decoded.{imageOf, noImage, mappingOf}
 use Rattle.mapping.specs.Judged.{NodesIn}
@@ -33,18 +32,6 @@ attributeTest s t f a =
     ltb (getD (f .attribute) a 0) (t .attributes) &&
     eqb (getD (t .kind) (getD (f .attribute) a 0) 0) (getD (s .kind) a 0) &&
     eqb (getD (t .node) (getD (f .attribute) a 0) 0) (getD (f .node) (getD (s .node) a 0) 0)
-
-module _ (s : Schema) (S-is : Sound s) where
-  pub source-in : (e : ℕ) → e < s .graph .edges → getD (s .graph .source) e 0 < s .graph .nodes
-  source-in = fit (S-is .limits) (S-is .well-formed) .sources
-
-  pub target-in : (e : ℕ) → e < s .graph .edges → getD (s .graph .target) e 0 < s .graph .nodes
-  target-in = fit (S-is .limits) (S-is .well-formed) .targets
-
-  pub home-in : (a : ℕ) → a < s .attributes → getD (s .node) a 0 < s .graph .nodes
-  home-in a l =
-      let h = schema-is (schemaOf s) (S-is .well-formed) .home-in a (rw (attributes-count s) l) in
-      rw (attribute-is s a l) at h
 
 module _ (s t : Schema) (f : Mapping) (S-is : Sound s) where
   edge-test : (e : ℕ) → e < s .graph .edges → edgeImageFits (schemaOf s) (schemaOf t) (mappingOf s f) e ≡ edgeTest (s .graph) (t .graph) f e

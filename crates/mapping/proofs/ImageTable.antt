@@ -4,25 +4,21 @@ use mathlib.Core.Path.{_≡_, sym, _∙_}
 use mathlib.Core.List.{List}
 use native.Mathlib.Omega.{arith}
 use lib.ListN.{length, getD}
-use Rattle.agreement.proofs.Paths.{WellFormed}
 use Rattle.agreement.proofs.Mappings.{Fits}
 use Rattle.schema.specs.declared.Schema.{Schema}
-use Rattle.paths.specs.declared.Paths.{Paths}
 use Rattle.schema.specs.Decoded.{graphOf, schemaOf}
-use Rattle.schema.specs.Judged.{Sound}
+use Rattle.schema.proofs.GraphEdges.{edges-count}
+use Rattle.paths.specs.declared.Paths.{Paths}
 use Rattle.paths.specs.PathNumbers.{parentOf, lastOf}
 use Rattle.paths.specs.Table.{Filled}
 use Rattle.paths.specs.PathWalks.{walkFrom, WalkIn}
-use Rattle.schema.proofs.GraphEdges.{edges-count}
 use Rattle.paths.proofs.EquationPairs.{table-index}
+use Rattle.paths.proofs.TablePaths.{formed}
 use Rattle.mapping.specs.declared.Mapping.{Mapping}
 use Rattle.mapping.specs.Decoded.{imageOf, noImage, mappingOf}
 use Rattle.mapping.specs.Judged.{Imageable, imageNumber}
 use Rattle.mapping.proofs.Viewing.{node-at, edge-at}
 use Rattle.mapping.proofs.Imaging.{fits, image-trivial, image-next, image-below}
-
-pub formed : {s : Schema} → Sound s → WellFormed (schemaOf s)
-formed h = record { fits = h .well-formed; acyclic = h .acyclic }
 
 module _ {s t : Schema} {source-paths target-paths : Paths} {f : Mapping} (h : Imageable s t source-paths target-paths f) where
   abbrev number : ℕ → ℕ

@@ -1,46 +1,40 @@
 -- Refusal 8 by class numbers: an equation's sides are paths of S, and the classes of their images stand in the tables.
 use Prim.Native.Nat.{ℕ, _<_, _≤_}
 use mathlib.Core.Path.{_≡_, sym, ap, _∙_}
-use mathlib.Core.Bool.{Bool, true, _&&_}
+use mathlib.Core.Bool.{Bool, true}
 use mathlib.Core.List.{List}
 use native.Mathlib.Omega.{arith}
 use lib.ListN.{length, getD}
 use lib.Dec.{eqb}
 use Rattle.meaning.specs.Lists.{all}
-use Rattle.meaning.specs.Schema.{Path, Equation, isPath, end}
+use Rattle.meaning.specs.Schema.{Path, Equation, isPath}
 use Rattle.meaning.specs.PathEquality.{classOf, equal}
-use Rattle.meaning.specs.Judge.{edgeFits, attributeFits, equationFits, keepsEquations}
+use Rattle.meaning.specs.Judge.{keepsEquations}
 use Rattle.meaning.specs.Views.{pathImage}
-use Rattle.meaning.proofs.Tabulate.{and-both, all-at, all-same}
+use Rattle.meaning.proofs.Tabulate.{all-same}
 use Rattle.agreement.proofs.Paths.{pathCount, numberOf, pathAt, number-in, number-path, path-iff, allPaths-each}
 use Rattle.schema.specs.declared.Schema.{Schema}
 use Rattle.schema.specs.declared.Path as declared
-use Rattle.paths.specs.declared.Paths.{Paths}
 use Rattle.schema.specs.Decoded.{graphOf, pathOf, equationOf, noPath, schemaOf}
 use Rattle.schema.specs.Judged.{Sound, SoundPath}
+use Rattle.schema.proofs.SoundSchema.{sides-at}
+use Rattle.paths.specs.declared.Paths.{Paths}
 use Rattle.paths.specs.Table.{Filled, IsTable}
 use Rattle.paths.specs.PathWalks.{walkFrom, WalkIn}
 use Rattle.paths.proofs.EquationPairs.{path-numbered}
+use Rattle.paths.proofs.TablePaths.{formed}
 use Rattle.mapping.specs.declared.Mapping.{Mapping}
 use Rattle.mapping.specs.Decoded.{mappingOf}
 use Rattle.mapping.specs.Judged.{Imageable, imageNumber, sideClass}
 use Rattle.mapping.proofs.Imaging.{image-below}
-use Rattle.mapping.proofs.ImageTable.{formed, images}
+use Rattle.mapping.proofs.ImageTable.{images}
 
 module _ (s : Schema) where
   abbrev pub equation : ℕ → Equation
   equation q = equationOf (getD (s .left) q noPath) (getD (s .right) q noPath)
 
   pub sides : Sound s → (q : ℕ) → q < s .equations → SoundPath (s .graph) (getD (s .left) q noPath) × SoundPath (s .graph) (getD (s .right) q noPath)
-  sides h q l =
-      let G = graphOf (s .graph) in
-      let x = equation q .left in
-      let y = equation q .right in
-      let a = all (edgeFits G) (G .edges) && all (attributeFits G) (schemaOf s .attributes) in
-      let e = and-both a (all (equationFits G) (schemaOf s .equations)) (h .well-formed) .1 in
-      let u = and-both (isPath G x && isPath G y && eqb (x .start) (y .start)) (eqb (end G x) (end G y)) (all-at (equationFits G) (s .equations) equation e q l) in
-      let v = and-both (isPath G x) (isPath G y) (and-both (isPath G x && isPath G y) (eqb (x .start) (y .start)) (u .0) .0) in
-      (record { short = h .limits .left .each q l; path = v .0 }, record { short = h .limits .right .each q l; path = v .1 })
+  sides h q l = let u = sides-at s h q l in (record { short = h .limits .left .each q l; path = u .left-path }, record { short = h .limits .right .each q l; path = u .right-path })
 
   -- the number of a path
   number-below : Sound s → (p : Path) → isPath (graphOf (s .graph)) p ≡ true → (numberOf (graphOf (s .graph)) p < pathCount (graphOf (s .graph))) × (pathAt (graphOf (s .graph)) (numberOf (graphOf (s .graph)) p) ≡ p)

@@ -7,13 +7,13 @@ use lib.ListN.{getD}
 use Rattle.meaning.specs.Schema as meaning
 use Rattle.meaning.specs.Formats as formats
 use Rattle.meaning.specs.Views.{pathImage}
-use Rattle.meaning.specs.Sheet.{Judged, sound}
-use Rattle.meaning.specs.Judge.{_>>=_, ensure, imagesFit, keepsEquations}
+use Rattle.meaning.specs.Sheet.{Judged}
+use Rattle.meaning.specs.Judge.{imagesFit, keepsEquations}
 use Rattle.agreement.proofs.Paths.{numberOf, pathAt}
 use Rattle.schema.specs.declared.Schema.{Schema}
-use Rattle.paths.specs.declared.Paths.{Paths}
 use Rattle.schema.specs.Decoded.{schemaOf}
 use Rattle.schema.specs.Judged as schemas
+use Rattle.paths.specs.declared.Paths.{Paths}
 use Rattle.paths.specs.Table.{Filled}
 use Rattle.paths.specs.Classes.{IsPaths}
 use Rattle.mapping.specs.declared.Mapping.{Mapping}
@@ -45,13 +45,6 @@ abbrev pub sideClass : List ℕ → List ℕ → ℕ → ℕ
 sideClass path class i = getD class (getD path i 0) 0
 
 -- ---- the judge
-
--- what follows the reading of a sheet: 7, then 8
-abbrev pub testMapping : meaning.Schema → meaning.Schema → formats.Mapping → Judged formats.Mapping
-testMapping S T F = do
-  _ ← ensure (imagesFit S T F) 7
-  _ ← ensure (keepsEquations S T F) 8
-  sound F
 
 -- what the code that works on a judged mapping relies on
 pub record Sound (s t : Schema) (source-paths : Paths) (f : Mapping) : Type 0 where

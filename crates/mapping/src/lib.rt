@@ -9,10 +9,10 @@ use paths::Paths;
 use schema::Path;
 use schema::Schema;
 ghost use mathlib.Core.Path.{_≡_};
-ghost use Rattle.meaning.specs.Judge.{judgeMapping};
+ghost use Rattle.meaning.specs.Judge.{testMapping, judgeMapping};
 ghost use Rattle.schema.specs.Decoded.{schemaOf};
 ghost use Rattle.mapping.specs.Decoded.{emptyImage, emptyMapping, mappingOf, Short};
-ghost use Rattle.mapping.specs.Judged.{Schemas, testMapping, Says};
+ghost use Rattle.mapping.specs.Judged.{Schemas, Says};
 
 // The image of an edge: edges of T, from the image of the edge's source on. Their number is a field of 4 bits.
 pub struct Image {

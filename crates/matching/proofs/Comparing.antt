@@ -20,12 +20,12 @@ use Rattle.meaning.proofs.Tabulate.{all-at, upto-tabulate, all-same}
 use Rattle.schema.specs.declared.Schema.{Schema}
 use Rattle.schema.specs.Decoded.{schemaOf}
 use Rattle.schema.proofs.GraphEdges.{edges-count, source-at, target-at}
+use Rattle.schema.proofs.SoundSchema.{source-in, target-in, home-in}
 use Rattle.instance.specs.declared.Instance.{Instance}
 use Rattle.instance.specs.declared.tables.Table.{Table}
 use Rattle.instance.specs.Decoded.{rowsOf, tablesOf}
 use Rattle.instance.specs.Tables.{tableListOf}
 use Rattle.instance.proofs.Columns.{sumOf-part}
-use Rattle.instance.proofs.SoundSchema.{source-in, target-in, home-in}
 use Rattle.instance.proofs.Following.{count-at, link-in}
 use Rattle.matching.specs.Compared.{partnersOf, firstIn, countIn, eachRow, partnerAt, linkKept, valueKept, existTest, linkTest, valueTest, TablesListed, ColumnsPaired, LinksPaired, Comparable}
 use Rattle.matching.proofs.TableRows.{column-entry, count-is, table-within, partner-is}

@@ -1,8 +1,8 @@
 -- Rows copied between their places in the run's list and in the joined lists are the theory's two turnings.
 use Prim.Native.Nat.{ℕ, _+_, _≤_, _<_}
-use mathlib.Core.Path.{_≡_, refl, sym, ap, ap₂, _∙_}
+use mathlib.Core.Path.{_≡_, sym, ap, ap₂, _∙_}
 use mathlib.Core.List.{List, []}
-use mathlib.Core.Logic.{ite, if-pos}
+use mathlib.Core.Logic.{ite}
 use native.Mathlib.Omega.{arith}
 use native.Mathlib.Decide.{ℕ-discrete}
 use lib.ListN.{length, getD}
@@ -13,7 +13,7 @@ use Rattle.theory.specs.Sigma.{share, size, place, origin}
 use Rattle.theory.specs.Matching.{partner}
 use Rattle.theory.specs.Transposition.{raw, pushed as pushedPartner, toRaw, toPushed}
 use Rattle.theory.proofs.Numbering.{sum-ext, sum-mono, locate-place, tabulate-length}
-use Rattle.theory.proofs.Sigma.{place-in, origin-place, each-row}
+use Rattle.theory.proofs.Sigma.{share-own, place-in, origin-place, each-row}
 use Rattle.theory.proofs.Matching.{partners-partner}
 use Rattle.theory.proofs.Transposition.{pushed-place}
 use Rattle.meaning.specs.Lists.{sumOf}
@@ -61,10 +61,6 @@ module _ {s t : Schema} {f : Mapping} {run pushed : Instance} (H : PushedCounts 
       ∙ map-upto-getD (λ d. rowsIn (tablesOf s run [] []) (fibre (schemaOf s) (mappingOf s f) d)) m 0 d l
       ∙ rowsIn-share (schemaOf s) (schemaOf t) (mappingOf s f) (tablesOf s run [] []) d n
 
-  share-own : (c : ℕ) → share F I (F .node c) c ≡ I .count c
-  unfolding share
-  share-own c = if-pos (ℕ-discrete (F .node c) (F .node c)) refl (I .count c) 0
-
   -- where the rows of c begin among all pushed rows, and that they all stand there
   abbrev start : ℕ → ℕ
   start c = sum (P .count) (F .node c) + sum (share F I (F .node c)) c
@@ -73,7 +69,7 @@ module _ {s t : Schema} {f : Mapping} {run pushed : Instance} (H : PushedCounts 
   start-within c l =
       let a = sum-front (share F I (F .node c)) n c l in
       let b = sum-front (P .count) m (F .node c) (node-in c l) in
-      omega (arith, share-own c, size-is (F .node c) (node-in c l), rows-are t pushed, H .pushed-limits .rows)
+      omega (arith, share-own F I c, size-is (F .node c) (node-in c l), rows-are t pushed, H .pushed-limits .rows)
 
   -- ---- the places that the code finds
   module _ (own tables : List Table) (own-laid : tableListOf n own ≡ tableList (tablesOf s run [] [])) (tables-laid : tableListOf m tables ≡ tableList (tablesOf t pushed [] [])) where

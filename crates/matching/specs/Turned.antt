@@ -70,12 +70,6 @@ pub record Placement (s t : Schema) (f : Mapping) (run pushed : Instance) (own j
 
 -- ---- rows copied
 
--- n numbers of a list from start on, stored in l from place on, which gives r
-pub record Copied (list : List ℕ) (start n : ℕ) (l : List ℕ) (place : ℕ) (r : List ℕ) : Type 0 where
-  pub each : (x : ℕ) → x < n → getD r (place + x) 0 ≡ getD list (start + x) 0
-  pub other : (k : ℕ) → ((x : ℕ) → x < n → k ≡ place + x → ⊥) → getD r k 0 ≡ getD l k 0
-  pub long : length r ≡ length l
-
 -- the rows of n tables, with the counts of `from`, have places in both lists, and no two the same in the second
 pub record Moveable (n : ℕ) (from to : List Table) (list out : List ℕ) : Type 0 where
   pub few : n ≤ 16

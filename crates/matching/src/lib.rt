@@ -6,8 +6,8 @@ use instance::Instance;
 use instance::decode::wide;
 use instance::range::column_below;
 use instance::tables::Table;
-use instance::tables::layout;
 use instance::tables::table_among;
+use instance::tables::table_list;
 use rows::links_agree;
 use rows::values_agree;
 use schema::Schema;
@@ -122,7 +122,7 @@ pub fn is_matching(
     let graph = schema.graph;
     let counts = a.counts;
     let bounds = b.counts;
-    let tables = layout(&counts, graph.nodes);
+    let tables = table_list(&counts, graph.nodes);
     if partners_exist(graph.nodes, tables, &bounds, list) {
         let source = graph.source;
         let target = graph.target;

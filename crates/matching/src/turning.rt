@@ -1,8 +1,9 @@
 // The two turnings of a matching: from Sigma's rows to the run's, and back.
 use instance::Instance;
+use instance::copy::copy_column;
 use instance::tables::Table;
-use instance::tables::layout;
 use instance::tables::table_among;
+use instance::tables::table_list;
 use mapping::Mapping;
 use schema::Schema;
 ghost use mathlib.Core.Path.{_≡_};
@@ -10,19 +11,7 @@ ghost use Prim.Native.Nat.{_+_, _≤_};
 ghost use lib.ListN.{length};
 ghost use Rattle.theory.specs.Transposition.{toRaw, toPushed};
 ghost use Rattle.matching.specs.Compared.{partnersOf};
-ghost use Rattle.matching.specs.Turned.{mappingBetween, countsOf, PushedCounts, Placeable, Placed, Placement, Copied, Moveable, Moved};
-
-// Copies n numbers of list from start on to out from place on.
-fn copy_rows(list: &[u32], start: usize, n: usize, out: &mut [u32], place: usize)
-    requires { ⌜ (start + n ≤ length (now list)) × (place + n ≤ length (now out)) ⌝ }
-    ensures { λ _. ⌜ Copied (now (list .entry)) start n (now (out .entry)) place (now (out .exit)) ⌝ }
-{
-    let mut x = 0;
-    while x < n {
-        out[place + x] = list[start + x];
-        x += 1;
-    }
-}
+ghost use Rattle.matching.specs.Turned.{mappingBetween, countsOf, PushedCounts, Placeable, Placed, Placement, Moveable, Moved};
 
 // Copies the rows of n tables from their places in list to their places in out.
 fn copy_tables(
@@ -39,7 +28,7 @@ fn copy_tables(
     while c < n {
         let here = table_among(from, n, c);
         let there = table_among(to, n, c);
-        copy_rows(list, here.first, here.count, &mut *out, there.first);
+        copy_column(list, here.first, here.count, &mut *out, there.first);
         c += 1;
     }
 }
@@ -88,8 +77,8 @@ fn places_of(s: Schema, t: Schema, f: Mapping, run: Instance, pushed: Instance) 
     let counts = run.counts;
     let sums = pushed.counts;
     let node = f.node;
-    let own = layout(&counts, s.graph.nodes);
-    let tables = layout(&sums, t.graph.nodes);
+    let own = table_list(&counts, s.graph.nodes);
+    let tables = table_list(&sums, t.graph.nodes);
     let joined = place_tables(s.graph.nodes, &node, own, tables);
     Places {
         own: own,

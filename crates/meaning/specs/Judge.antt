@@ -90,12 +90,16 @@ imagesFit S T F =
 abbrev pub keepsEquations : Schema → Schema → Mapping → Bool
 keepsEquations S T F = all (λ q. equal T (pathImage F (q .left)) (pathImage F (q .right))) (S .equations)
 
-abbrev pub judgeMapping : Schema → Schema → List ℕ → Judged Mapping
-judgeMapping S T s = do
-  F ← onSheet (readMapping S) s
+abbrev pub testMapping : Schema → Schema → Mapping → Judged Mapping
+testMapping S T F = do
   _ ← ensure (imagesFit S T F) 7
   _ ← ensure (keepsEquations S T F) 8
   sound F
+
+abbrev pub judgeMapping : Schema → Schema → List ℕ → Judged Mapping
+judgeMapping S T s = do
+  F ← onSheet (readMapping S) s
+  testMapping S T F
 
 -- ---- instance of S: 9, 10, 11
 
@@ -111,10 +115,14 @@ valuesInRange ks S I = all (λ a. all (inRange ks (attributeAt S a .kind)) (colu
 abbrev pub obeysEquations : Schema → Instance → Bool
 obeysEquations S I = all (λ q. all (λ r. eqb (follow I (q .left .edges) r) (follow I (q .right .edges) r)) (rows I (q .left .start))) (S .equations)
 
-abbrev pub judgeInstance : Schema → List ℕ → Judged Instance
-judgeInstance S s = do
-  I ← onSheet (readInstance S) s
+abbrev pub testInstance : Schema → Instance → Judged Instance
+testInstance S I = do
   _ ← ensure (linksInRange S I) 9
   _ ← ensure (valuesInRange kinds S I) 10
   _ ← ensure (obeysEquations S I) 11
   sound I
+
+abbrev pub judgeInstance : Schema → List ℕ → Judged Instance
+judgeInstance S s = do
+  I ← onSheet (readInstance S) s
+  testInstance S I

@@ -7,13 +7,14 @@ use borrow.Author.Tests.{eq-eqb, ne-eqb}
 use Rattle.meaning.specs.Lists.{sumOf}
 use Rattle.meaning.specs.Sheet.{Judged, sound, onSheet}
 use Rattle.meaning.specs.Formats as formats
+use Rattle.meaning.specs.Formats.{readPartners}
 use Rattle.meaning.specs.Judge.{_>>=_, ensure}
 use Rattle.meaning.specs.Matching.{isMatching, judgeMatching}
 use Rattle.schema.specs.declared.Schema.{Schema}
 use Rattle.schema.specs.Decoded.{schemaOf, frontOf}
 use Rattle.instance.specs.declared.Instance.{Instance}
 use Rattle.instance.specs.Decoded.{tablesOf}
-use Rattle.encoding.specs.Matched.{readPartners, judgedPartners}
+use Rattle.encoding.specs.Matched.{judgedPartners}
 use Rattle.matching.specs.Compared.{partnersOf}
 use Rattle.migration.specs.Matched.{judgedMatching}
 

@@ -11,12 +11,12 @@ use Rattle.theory.proofs.Numbering.{tabulate-getD}
 use Rattle.meaning.specs.Lists.{sumOf}
 use Rattle.meaning.specs.Formats as formats
 use Rattle.meaning.specs.Views.{instanceOf}
+use Rattle.meaning.proofs.Tabulate.{tabulate-upto}
 use Rattle.schema.specs.Decoded.{frontOf}
-use Rattle.mapping.proofs.Viewing.{node-at}
-use Rattle.lifts.proofs.JoinedRows.{joined-length}
 use Rattle.instance.specs.declared.Instance.{Instance}
 use Rattle.instance.specs.Decoded.{tablesOf}
-use Rattle.delta.proofs.Pulling.{tabulate-upto}
+use Rattle.mapping.proofs.Viewing.{node-at}
+use Rattle.lifts.proofs.JoinedRows.{joined-length}
 use Rattle.sigma.specs.Pushed.{Counted}
 use Rattle.matching.specs.Compared.{partnersOf}
 use Rattle.matching.specs.Turned.{mappingBetween, countsOf, PushedCounts}

@@ -25,13 +25,14 @@ use Rattle.schema.specs.declared.Schema.{Schema}
 use Rattle.schema.specs.Decoded.{schemaOf}
 use Rattle.schema.specs.Judged.{Sound}
 use Rattle.schema.proofs.GraphEdges.{edges-count, source-at}
+use Rattle.schema.proofs.SoundSchema.{source-in, home-in}
+use Rattle.paths.proofs.TablePaths.{formed}
 use Rattle.instance.specs.declared.Instance.{Instance}
 use Rattle.instance.specs.Decoded.{rowsOf, columnOf, columnsOf, tablesOf, Limits}
 use Rattle.instance.specs.Tested.{Accepted}
-use Rattle.instance.proofs.SoundSchema.{source-in, home-in}
+use Rattle.instance.proofs.Following.{count-at}
 use Rattle.mapping.specs.Decoded.{mappingOf}
 use Rattle.mapping.proofs.Viewing.{attributes-count, attribute-is}
-use Rattle.mapping.proofs.ImageTable.{formed}
 use Rattle.migration.specs.declared.open.Opened.{Opened}
 use Rattle.migration.specs.declared.sides.Sides.{Sides}
 use Rattle.migration.specs.Opened.{Ready}
@@ -42,9 +43,6 @@ use Rattle.migration.specs.Sides.{Migratable}
 module _ {t : Schema} (A : Sound t) (i : Instance) (links values : List ℕ) where
   abbrev I : formats.Instance
   I = tablesOf t i links values
-
-  count-at : (c : ℕ) → c < t .graph .nodes → count I c ≡ getD (i .counts) c 0
-  count-at c l = tabulate-getD (t .graph .nodes) (λ k. getD (i .counts) k 0) 0 c l
 
   column-length : (n : ℕ) (rows : ℕ → ℕ) (l : List ℕ) (k : ℕ) → k < n → length (getD (columnsOf n rows l) k []) ≡ rows k
   column-length n rows l k h =
@@ -58,11 +56,11 @@ module _ {t : Schema} (A : Sound t) (i : Instance) (links values : List ℕ) whe
     links = λ e l.
         let h : e < t .graph .edges = rw (edges-count (t .graph .edges) (t .graph .source) (t .graph .target)) at l in
         column-length (t .graph .edges) (rowsOf (t .graph .source) (i .counts)) links e h
-        ∙ sym (ap (count I) (source-at (t .graph .edges) (t .graph .source) (t .graph .target) e h) ∙ count-at (getD (t .graph .source) e 0) (source-in t A e h));
+        ∙ sym (ap (count I) (source-at (t .graph .edges) (t .graph .source) (t .graph .target) e h) ∙ count-at t A i links values (getD (t .graph .source) e 0) (source-in t A e h));
     values = λ a l.
         let h : a < t .attributes = rw (attributes-count t) at l in
         column-length (t .attributes) (rowsOf (t .node) (i .counts)) values a h
-        ∙ sym (ap (λ (x : Attribute). count I (x .node)) (attribute-is t a h) ∙ count-at (getD (t .node) a 0) (home-in t A a h));
+        ∙ sym (ap (λ (x : Attribute). count I (x .node)) (attribute-is t a h) ∙ count-at t A i links values (getD (t .node) a 0) (home-in t A a h));
   }
 
   accepted-valid : Limits t i → Accepted t i links values → ValidInstance (schemaOf t) I

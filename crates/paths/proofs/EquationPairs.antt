@@ -1,37 +1,36 @@
 -- The pairs that a judged schema's equations join in its table of paths are those of all steps.
 use Prim.Native.Nat.{ℕ, _<_}
 use mathlib.Core.Path.{_≡_, refl, sym, ap, _∙_, subst}
-use mathlib.Core.Bool.{Bool, true, false, cond, _&&_}
+use mathlib.Core.Bool.{Bool, true, false, cond}
 use mathlib.Core.List.{List, [], _++_, List·Memᴰ, List·Memᴰ·not-nil, append-assoc}
 use mathlib.Core.Logic.{inl}
 use native.Mathlib.Omega.{arith}
 use lib.ListN.{length, getD, take, length-append}
 use lib.Seq.{getD-take}
-use lib.Dec.{ltb, eqb}
+use lib.Dec.{eqb}
 use borrow.Author.Tests.{eqb-true, eq-eqb}
 use Rattle.theory.specs.Schema.{endpoint, IsPath, same, more}
 use Rattle.theory.proofs.Schema.{endpoint-append, path-start, path-first, path-last}
 use Rattle.theory.proofs.Numbering.{tabulate-length, tabulate-getD}
+use Rattle.theory.proofs.Order.{mem-position, mem-getD}
 use Rattle.meaning.specs.Lists.{upto, all}
 use Rattle.meaning.specs.Schema as meaning
-use Rattle.meaning.specs.Schema.{target, joins, isPath, end}
-use Rattle.meaning.specs.Judge.{edgeFits, attributeFits, equationFits}
+use Rattle.meaning.specs.Schema.{target, joins, end}
 use Rattle.meaning.specs.PathEquality.{classes, classOf}
 use Rattle.meaning.specs.Views as views
-use Rattle.meaning.proofs.Tabulate.{and-both, all-at}
-use Rattle.theory.proofs.Order.{mem-position, mem-getD}
 use Rattle.meaning.proofs.Lists.{concatMap-in, concatMap-of, in-upto, of-upto, upto-length}
 use Rattle.agreement.proofs.Paths.{WellFormed, schema-is, edgeLists-each, path-short, allPaths-each, pathCount, numberOf, pathAt, number-in, number-path, number-at}
 use Rattle.schema.specs.declared.Path.{Path}
-use Rattle.paths.specs.declared.Paths.{Paths}
 use Rattle.schema.specs.declared.Schema.{Schema}
 use Rattle.schema.specs.Decoded.{graphOf, pathOf, noPath, equationOf, schemaOf}
 use Rattle.schema.specs.Judged.{Sound, SoundPath}
+use Rattle.schema.proofs.GraphEdges.{edges-count}
+use Rattle.schema.proofs.SoundSchema.{sides-at}
+use Rattle.paths.specs.declared.Paths.{Paths}
 use Rattle.paths.specs.PathNumbers.{startOf, endOf}
 use Rattle.paths.specs.Table.{Filled, Index, IsTable}
 use Rattle.paths.specs.PathWalks.{walkFrom}
 use Rattle.paths.specs.Classes.{joinNumbers, followerPairs, pairsAt, equationPairs, schemaPairs, Joinable, classNumber}
-use Rattle.schema.proofs.GraphEdges.{edges-count}
 use Rattle.paths.proofs.PathWalks.{Reached, walk-reaches, Numbered, walk-number}
 use Rattle.paths.proofs.PathBlocks.{behind}
 use Rattle.paths.proofs.FollowerPairs.{pairs-of, pairs-in, pairs-within}
@@ -69,18 +68,11 @@ module _ (t : Schema) (p : Paths) (sound : Sound t) (table : IsTable (graphOf (t
 
   joined : (q : ℕ) → q < t .equations → Joined q
   joined q h =
-      let l = pathOf (left q) in
-      let r = pathOf (right q) in
-      let fits = and-both (all (edgeFits G) (G .edges) && all (attributeFits G) (S .attributes)) (all (equationFits G) (S .equations)) (sound .well-formed) .1 in
-      let e = all-at (equationFits G) (t .equations) (λ i. equationOf (left i) (right i)) fits q h in
-      let a = and-both (isPath G l && isPath G r && eqb (l .start) (r .start)) (eqb (end G l) (end G r)) e in
-      let b = and-both (isPath G l && isPath G r) (eqb (l .start) (r .start)) (a .0) in
-      let c = and-both (isPath G l) (isPath G r) (b .0) in
-      let s = eqb-true (l .start) (r .start) (b .1) in
+      let u = sides-at t sound q h in
       record {
-        left-joins = and-both (ltb (l .start) (G .nodes)) (joins G (l .start) (l .edges)) (c .0) .1;
-        right-joins = subst (λ (n : ℕ). joins G n (r .edges) ≡ true) (sym s) (and-both (ltb (r .start) (G .nodes)) (joins G (r .start) (r .edges)) (c .1) .1);
-        ends = eqb-true (end G l) (end G r) (a .1) ∙ ap (λ (n : ℕ). endpoint (target G) n (r .edges)) (sym s);
+        left-joins = u .left-joins;
+        right-joins = subst (λ (n : ℕ). joins G n (pathOf (right q) .edges) ≡ true) (sym (u .one-start)) (u .right-joins);
+        ends = u .one-end ∙ ap (λ (n : ℕ). endpoint (target G) n (pathOf (right q) .edges)) (sym (u .one-start));
       }
 
   -- ---- behind path u, which ends at the equation's start

@@ -16,12 +16,12 @@ use Rattle.meaning.specs.Schema.{Graph, Path, path, source, target, hasLoop}
 use Rattle.meaning.proofs.Tabulate.{filled}
 use Rattle.agreement.proofs.Paths.{pathCount, numberOf, pathAt, number-at}
 use Rattle.schema.specs.declared.Graph as declared
-use Rattle.paths.specs.declared.Paths.{Paths}
 use Rattle.schema.specs.Decoded.{graphOf}
 use Rattle.schema.specs.Counted.{Fit}
+use Rattle.schema.proofs.GraphEdges.{source-at}
+use Rattle.paths.specs.declared.Paths.{Paths}
 use Rattle.paths.specs.PathNumbers.{initial, final, startOf, endOf, lengthOf, parentOf, lastOf, firstOf, leavingBelow, rankOf}
 use Rattle.paths.specs.Table.{Filled, Columns, Trivial, NextLeaving}
-use Rattle.schema.proofs.GraphEdges.{source-at}
 use Rattle.paths.proofs.PathNumbers.{below-here, below-skip, trivial-at, trivial-count, first-more, first-end, next-at}
 use Rattle.paths.proofs.PathParents.{initial-one, final-one, first-after, parents}
 

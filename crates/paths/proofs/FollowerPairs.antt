@@ -7,8 +7,8 @@ use mathlib.Core.Logic.{_⊎_, inl, inr}
 use native.Mathlib.Omega.{arith}
 use lib.ListN.{length, getD}
 use Rattle.theory.proofs.Numbering.{tabulate-length, tabulate-getD}
-use Rattle.meaning.specs.Schema.{Graph, edgeLists, hasLoop}
 use Rattle.theory.proofs.Order.{mem-getD, mem-position}
+use Rattle.meaning.specs.Schema.{Graph, edgeLists, hasLoop}
 use Rattle.agreement.proofs.Paths.{pathCount, pathAt}
 use Rattle.paths.specs.PathNumbers.{endOf, firstOf}
 use Rattle.paths.specs.Table.{Index}

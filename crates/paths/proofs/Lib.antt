@@ -8,3 +8,4 @@ pub mod PathBlocks
 pub mod FollowerPairs
 pub mod JoinedNumbers
 pub mod EquationPairs
+pub mod TablePaths

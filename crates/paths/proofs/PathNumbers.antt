@@ -16,8 +16,8 @@ use Rattle.meaning.proofs.Heights.{upto-more, filter-one}
 use Rattle.meaning.proofs.PathLevels.{concatMap-append, followed, pathsOfLength-longer}
 use Rattle.meaning.proofs.Lists.{getD-map, upto-length, upto-getD}
 use Rattle.agreement.proofs.Paths.{pathCount, pathAt}
-use Rattle.paths.specs.PathNumbers.{firstOf, leavingBelow, rankOf, endOf}
 use Rattle.schema.proofs.Tallies.{loop-count}
+use Rattle.paths.specs.PathNumbers.{firstOf, leavingBelow, rankOf, endOf}
 
 -- ---- edges that leave a node, one edge more
 module _ (G : Graph) (v k : ℕ) where

@@ -9,10 +9,10 @@ use lib.ListN.{length, drop, length-append, length-drop}
 use lib.Seq.{getD-drop}
 use lib.Dec.{ltb}
 use borrow.Author.Tests.{ltb-true, ltb-false}
+use Rattle.theory.proofs.Order.{mem-getD, mem-position, sorted-getD}
 use Rattle.meaning.specs.Lists.{concatMap}
 use Rattle.meaning.specs.Schema.{Graph, Path, path, source, leaving, allPaths, hasLoop}
 use Rattle.meaning.proofs.PathLevels.{followed}
-use Rattle.theory.proofs.Order.{mem-getD, mem-position, sorted-getD}
 use Rattle.meaning.proofs.Lists.{concatMap-of}
 use Rattle.agreement.proofs.Paths.{pathCount, numberOf, pathAt, number-at, allPaths-sorted, Before, leaving-iff}
 use Rattle.paths.specs.PathNumbers.{initial, final, firstOf, endOf, lengthOf, parentOf, lastOf}

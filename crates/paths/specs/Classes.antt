@@ -10,9 +10,9 @@ use Rattle.meaning.specs.Lists.{upto, concatMap}
 use Rattle.meaning.specs.Schema as meaning
 use Rattle.meaning.specs.PathEquality.{joinClasses, classes}
 use Rattle.schema.specs.declared.Path.{Path}
-use Rattle.paths.specs.declared.Paths.{Paths}
 use Rattle.schema.specs.declared.Schema.{Schema}
 use Rattle.schema.specs.Decoded.{pathOf, noPath}
+use Rattle.paths.specs.declared.Paths.{Paths}
 use Rattle.paths.specs.Table.{Filled, IsTable}
 use Rattle.paths.specs.PathWalks.{walkFrom, WalkIn}
 

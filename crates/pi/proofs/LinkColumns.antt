@@ -7,16 +7,16 @@ use Rattle.theory.specs.Numbering.{tabulate}
 use Rattle.meaning.specs.Lists.{upto, position, sameList}
 use Rattle.meaning.specs.Schema.{path, source, target}
 use Rattle.meaning.specs.Pi.{componentAt, noComponent, pi}
-use Rattle.meaning.proofs.Tabulate.{tabulate-same}
+use Rattle.meaning.proofs.Tabulate.{tabulate-same, tabulate-upto}
 use Rattle.schema.specs.declared.Schema.{Schema}
-use Rattle.paths.specs.declared.Paths.{Paths}
 use Rattle.schema.specs.Decoded.{graphOf, schemaOf}
 use Rattle.schema.proofs.GraphEdges.{edges-count, source-at, target-at}
-use Rattle.mapping.specs.declared.Mapping.{Mapping}
-use Rattle.mapping.specs.Decoded.{mappingOf}
+use Rattle.paths.specs.declared.Paths.{Paths}
 use Rattle.instance.specs.declared.Instance.{Instance}
 use Rattle.instance.specs.Decoded.{rowsOf, columnOf, columnsOf, tablesOf}
-use Rattle.delta.specs.Stored.{ColumnsStored}
+use Rattle.instance.specs.Stored.{ColumnsStored}
+use Rattle.mapping.specs.declared.Mapping.{Mapping}
+use Rattle.mapping.specs.Decoded.{mappingOf}
 use Rattle.pi.specs.declared.components.Components.{Components}
 use Rattle.pi.specs.Given.{Mapped}
 use Rattle.pi.specs.Components.{componentsOf}
@@ -24,7 +24,7 @@ use Rattle.pi.specs.Families.{Gathered, familiesOf, familyCount, Familie
 use Rattle.pi.specs.Links.{sourceOf, targetOf, placeAfter, entryOf, rowPlace, tableRows, linkRow}
 use Rattle.pi.proofs.Places.{position-upto}
 use Rattle.pi.proofs.Tracing.{width-is, here-in, there-in, place-after}
-use Rattle.pi.proofs.ListedRows.{map-places, map-upto, row-is, entry-is}
+use Rattle.pi.proofs.ListedRows.{map-places, row-is, entry-is}
 
 module _ {s t : Schema} {paths : Paths} {f : Mapping} {k : Components} {run : Instance} {links counts table : List ℕ} (M : Mapped s t paths f) (K : Gathered s t f k) (L : FamiliesUpto s t f run links (t .graph .nodes) counts table) where
   -- the row at the end of e from d to h of a row at d
@@ -77,5 +77,5 @@ module _ {s t : Schema} {paths : Paths} {f : Mapping} {k : Components} {run : In
   pub links-are : {o r : List ℕ} (values : List ℕ) → ColumnsStored (t .graph .edges) (rowsOf (t .graph .source) counts) (linkRow (t .graph) paths k counts table) o r
       → columnsOf (t .graph .edges) (rowsOf (t .graph .source) counts) r ≡ pi (schemaOf s) (schemaOf t) (mappingOf s f) (tablesOf s run links values) .links
   links-are {r = r} values u =
-      map-upto (t .graph .edges) (λ e l. column-is e l r (u .each e l))
+      tabulate-upto (t .graph .edges) (λ e l. column-is e l r (u .each e l))
       ∙ ap (λ (n : ℕ). map (λ e. map (linkTo (source (graphOf (t .graph)) e) (target (graphOf (t .graph)) e) e) (familiesOf s t f run links (source (graphOf (t .graph)) e))) (upto n)) (sym (edges-count (t .graph .edges) (t .graph .source) (t .graph .target)))

@@ -17,18 +17,18 @@ use Rattle.meaning.proofs.Tabulate.{and-both}
 use Rattle.meaning.proofs.Lists.{and-intro}
 use Rattle.agreement.proofs.Paths.{pathCount, numberOf, pathAt, number-in, number-path, path-iff, path-short, allPaths-each, pathsFrom-each}
 use Rattle.schema.specs.declared.Schema.{Schema}
-use Rattle.paths.specs.declared.Paths.{Paths}
 use Rattle.schema.specs.Decoded.{graphOf, schemaOf}
+use Rattle.schema.proofs.GraphEdges.{edges-count, source-at, target-at}
+use Rattle.schema.proofs.SoundSchema.{source-in, target-in}
+use Rattle.paths.specs.declared.Paths.{Paths}
 use Rattle.paths.specs.PathNumbers.{endOf}
 use Rattle.paths.specs.PathWalks.{walkFrom}
-use Rattle.schema.proofs.GraphEdges.{edges-count, source-at, target-at}
 use Rattle.paths.proofs.PathNumbers.{trivial-at, trivial-count}
 use Rattle.paths.proofs.PathWalks.{Reached, walk-reaches}
 use Rattle.paths.proofs.EquationPairs.{table-index}
+use Rattle.paths.proofs.TablePaths.{formed}
 use Rattle.mapping.specs.declared.Mapping.{Mapping}
 use Rattle.mapping.specs.Decoded.{mappingOf}
-use Rattle.mapping.proofs.ImageTable.{formed}
-use Rattle.instance.proofs.SoundSchema.{source-in, target-in}
 use Rattle.mapping.specs.PathEdges.{pathEdges}
 use Rattle.mapping.proofs.PathEdges.{edges-are}
 use Rattle.pi.specs.declared.components.Components.{Components}

@@ -15,19 +15,19 @@ use Rattle.meaning.specs.Schema.{Attribute, path, attributeAt}
 use Rattle.meaning.specs.Formats as meaning
 use Rattle.meaning.specs.Views.{value}
 use Rattle.meaning.specs.Pi.{isBijective, componentAt, valueAt, pi}
-use Rattle.meaning.proofs.Tabulate.{tabulate-same}
+use Rattle.meaning.proofs.Tabulate.{tabulate-same, tabulate-upto}
 use Rattle.meaning.proofs.Lists.{upto-all, filter-of, position-in}
 use Rattle.schema.specs.declared.Schema.{Schema}
-use Rattle.paths.specs.declared.Paths.{Paths}
 use Rattle.schema.specs.Decoded.{graphOf, schemaOf, frontOf}
+use Rattle.schema.proofs.SoundSchema.{home-in}
+use Rattle.paths.specs.declared.Paths.{Paths}
 use Rattle.paths.proofs.PathNumbers.{trivial-at, trivial-count}
+use Rattle.instance.specs.declared.Instance.{Instance}
+use Rattle.instance.specs.Decoded.{rowsOf, columnOf, columnsOf, tablesOf}
+use Rattle.instance.specs.Stored.{Stored, ColumnsStored}
 use Rattle.mapping.specs.declared.Mapping.{Mapping}
 use Rattle.mapping.specs.Decoded.{mappingOf}
 use Rattle.mapping.proofs.Viewing.{attributes-count, attribute-is}
-use Rattle.instance.specs.declared.Instance.{Instance}
-use Rattle.instance.specs.Decoded.{rowsOf, columnOf, columnsOf, tablesOf}
-use Rattle.instance.proofs.SoundSchema.{home-in}
-use Rattle.delta.specs.Stored.{Stored, ColumnsStored}
 use Rattle.pi.specs.declared.components.Components.{Components}
 use Rattle.pi.specs.declared.links.TableRows.{TableRows}
 use Rattle.pi.specs.Given.{Mapped}
@@ -37,7 +37,7 @@ use Rattle.pi.specs.Links.{entryOf, tableRows}
 use Rattle.pi.specs.Values.{attributeOver, attributeNode, valuePlace, valueThrough, valueRow}
 use Rattle.pi.proofs.Places.{place-is}
 use Rattle.pi.proofs.ComponentFacts.{few-at}
-use Rattle.pi.proofs.ListedRows.{map-places, map-upto, entry-list, entry-is}
+use Rattle.pi.proofs.ListedRows.{map-places, entry-list, entry-is}
 
 -- ---- the attribute whose image is b
 module _ (s t : Schema) (f : Mapping) (B : isBijective (schemaOf t) (mappingOf s f) ≡ true) where
@@ -104,7 +104,7 @@ module _ {s t : Schema} {paths : Paths} {f : Mapping} {k : Components} {run : In
   pub values-are : {o r : List ℕ} → ColumnsStored (t .attributes) (rowsOf (t .node) counts) (valueRow s t paths k (f .attribute) (run .counts) counts table values) o r
       → columnsOf (t .attributes) (rowsOf (t .node) counts) r ≡ pi (schemaOf s) (schemaOf t) (mappingOf s f) I .values
   values-are {r = r} u =
-      map-upto (t .attributes) (λ b l. column-is b l r (u .each b l))
+      tabulate-upto (t .attributes) (λ b l. column-is b l r (u .each b l))
       ∙ ap (λ (n : ℕ). map (λ b. map (valueAt (schemaOf s) (schemaOf t) (mappingOf s f) I b) (familiesOf s t f run links (attributeAt (schemaOf t) b .node))) (upto n)) (sym (attributes-count t))
 
 -- ---- values stored row by row

@@ -9,9 +9,9 @@ use Rattle.theory.specs.Numbering.{tabulate}
 use Rattle.theory.specs.Schema.{Lex}
 use Rattle.meaning.specs.Lists.{upto, sumOf, position, sameList}
 use Rattle.schema.specs.declared.Graph.{Graph}
+use Rattle.schema.specs.Decoded.{frontOf}
 use Rattle.paths.specs.declared.Paths.{Paths}
 use Rattle.paths.specs.PathWalks.{walkFrom, WalkIn}
-use Rattle.schema.specs.Decoded.{frontOf}
 use Rattle.instance.specs.Decoded.{columnOf}
 use Rattle.mapping.specs.PathEdges.{pathEdges}
 use Rattle.pi.specs.declared.components.Components.{Components}

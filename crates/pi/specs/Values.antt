@@ -6,8 +6,8 @@ use lib.ListN.{length, getD}
 use lib.Dec.{eqb}
 use Rattle.meaning.specs.Lists.{position}
 use Rattle.schema.specs.declared.Schema.{Schema}
-use Rattle.paths.specs.declared.Paths.{Paths}
 use Rattle.schema.specs.Decoded.{frontOf}
+use Rattle.paths.specs.declared.Paths.{Paths}
 use Rattle.instance.specs.Decoded.{rowsOf}
 use Rattle.pi.specs.declared.components.Components.{Components}
 use Rattle.pi.specs.declared.links.TableRows.{TableRows}

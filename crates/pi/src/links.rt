@@ -2,8 +2,8 @@
 use crate::components::Components;
 use crate::components::place;
 use instance::Instance;
-use instance::tables::layout;
 use instance::tables::table_among;
+use instance::tables::table_list;
 use mapping::edges::path_edges;
 use paths::Paths;
 use paths::walk::walk;
@@ -13,10 +13,10 @@ use schema::numbers::wide;
 ghost use mathlib.Core.Path.{_≡_};
 ghost use Prim.Native.Nat.{_+_, _*_, _≤_, _<_};
 ghost use lib.ListN.{length, getD};
-ghost use Rattle.paths.specs.Table.{Filled};
 ghost use Rattle.schema.specs.Decoded.{frontOf};
+ghost use Rattle.paths.specs.Table.{Filled};
 ghost use Rattle.instance.specs.Decoded.{columnOf, rowsOf};
-ghost use Rattle.delta.specs.Stored.{Stored, ColumnsStored};
+ghost use Rattle.instance.specs.Stored.{Stored, ColumnsStored};
 ghost use Rattle.pi.specs.Links.{afterEdge, Extends, placeAfter, targetOf, Traced, entryOf, rowPlace, tableRows, Within, Ordered, Compares, linkPlace, linkRow, Linkable};
 
 // The rows of a table in the list of all rows: the first, how many, and how many numbers each has.
@@ -181,7 +181,7 @@ pub fn table_rows(counts: &[u32], k: Components, d: usize) -> TableRows
     ensures { λ r. ⌜ r ≡ tableRows (now (counts .entry)) (k .count) d ⌝ }
 {
     let n = d + 1;
-    let tables = layout(counts, n);
+    let tables = table_list(counts, n);
     let table = table_among(tables, n, d);
     TableRows {
         first: table.first,

@@ -16,7 +16,7 @@ ghost use mathlib.Core.Path.{_≡_};
 ghost use Prim.Native.Nat.{_+_, _*_, _≤_, _<_};
 ghost use lib.ListN.{length, getD};
 ghost use Rattle.instance.specs.Decoded.{rowsOf};
-ghost use Rattle.delta.specs.Stored.{Stored, ColumnsStored};
+ghost use Rattle.instance.specs.Stored.{Stored, ColumnsStored};
 ghost use Rattle.pi.specs.Links.{entryOf, Within};
 ghost use Rattle.pi.specs.Values.{attributeNode, valuePlace, valueThrough, valueRow, Readable};
 

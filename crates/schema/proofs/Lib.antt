@@ -5,3 +5,4 @@ pub mod Following
 pub mod NodeHeights
 pub mod Tallies
 pub mod Judging
+pub mod SoundSchema

@@ -14,8 +14,8 @@ use Rattle.meaning.specs.Lists.{upto, filter, headOr, sumOf}
 use Rattle.meaning.proofs.Lists.{filter-of, of-upto}
 use Rattle.schema.specs.Decoded.{frontOf}
 use Rattle.instance.proofs.Columns.{sumOf-more}
+use Rattle.instance.specs.Stored.{Stored}
 use Rattle.lifts.specs.Lifts.{joinedBefore}
-use Rattle.delta.specs.Stored.{Stored}
 use Rattle.sigma.specs.Joined.{JoinedStored, JoinedColumns}
 
 -- ---- the rows before a node

@@ -4,10 +4,10 @@ use mathlib.Core.Path.{_≡_, ap, _∙_}
 use mathlib.Core.List.{List}
 use lib.ListN.{getD}
 use Rattle.theory.specs.Instance.{follow}
-use Rattle.instance.specs.Followed.{linkIn}
-use Rattle.lifts.specs.Lifts.{joinedBefore}
-use Rattle.delta.specs.Stored.{Leads, Stored}
 use Rattle.paths.specs.declared.Paths.{Paths}
+use Rattle.instance.specs.Followed.{linkIn}
+use Rattle.instance.specs.Stored.{Leads, Stored}
+use Rattle.lifts.specs.Lifts.{joinedBefore}
 use Rattle.sigma.specs.Lifted.{LiftLeads, liftRow}
 
 pub end-row : (node counts : List ℕ) (x : ℕ) {r y : ℕ} → r ≡ joinedBefore node counts (getD node x 0) x → x ≡ y → r ≡ joinedBefore node counts (getD node y 0) y

@@ -23,31 +23,30 @@ use Rattle.meaning.specs.Views.{nodeImage, count, column, follow}
 use Rattle.meaning.specs.Views as views
 use Rattle.meaning.specs.Sigma.{fibreBelow, fibre, lift, linksAlong, attributeOver, firstRow}
 use Rattle.meaning.proofs.PathLevels.{concatMap-append}
-use Rattle.meaning.proofs.Tabulate.{tabulate-same}
+use Rattle.meaning.proofs.Tabulate.{tabulate-same, tabulate-upto}
 use Rattle.meaning.proofs.Tabulate.{and-both}
 use Rattle.agreement.proofs.Paths.{path-iff, path-short}
 use Rattle.agreement.proofs.Mappings.{mapping-is}
 use Rattle.agreement.proofs.Valid.{ValidMapping}
 use Rattle.agreement.proofs.Evenness.{even-iff, lift-is, attributeOver-is}
 use Rattle.schema.specs.declared.Schema.{Schema}
-use Rattle.paths.specs.declared.Paths.{Paths}
 use Rattle.schema.specs.Decoded.{graphOf, schemaOf, frontOf}
 use Rattle.schema.proofs.GraphEdges.{edges-count, source-at}
+use Rattle.schema.proofs.SoundSchema.{source-in, home-in}
+use Rattle.paths.specs.declared.Paths.{Paths}
+use Rattle.paths.proofs.TablePaths.{formed}
 use Rattle.instance.specs.declared.Instance.{Instance}
 use Rattle.instance.specs.Decoded.{rowsOf, columnOf, columnsOf, tablesOf}
 use Rattle.instance.specs.Followed.{linkIn}
-use Rattle.instance.proofs.SoundSchema.{source-in, home-in}
 use Rattle.instance.proofs.Following.{count-at, rows-few, Led, led}
 use Rattle.mapping.specs.declared.Mapping.{Mapping}
 use Rattle.mapping.specs.Decoded.{mappingOf}
-use Rattle.lifts.specs.Lifts.{IsLift, EdgeLifts, joinedBefore}
 use Rattle.mapping.specs.PathEdges.{pathEdges}
 use Rattle.mapping.proofs.Viewing.{node-at, attributes-count, attribute-is}
-use Rattle.mapping.proofs.ImageTable.{formed}
+use Rattle.mapping.proofs.PathEdges.{edges-are}
+use Rattle.lifts.specs.Lifts.{IsLift, EdgeLifts, joinedBefore}
 use Rattle.lifts.proofs.JoinedRows.{first-row, joined-length}
 use Rattle.lifts.proofs.Columns.{attribute-over}
-use Rattle.mapping.proofs.PathEdges.{edges-are}
-use Rattle.delta.proofs.Pulling.{tabulate-upto}
 use Rattle.sigma.specs.Joined.{JoinedColumns, attributeIn, valueOver}
 use Rattle.sigma.specs.Lifted.{liftRow, LiftLeads}
 use Rattle.sigma.specs.Pushed.{Counted, AllLead, AllOver, Pushable, sigmaOf, Pushed}

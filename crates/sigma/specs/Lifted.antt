@@ -6,9 +6,9 @@ use lib.ListN.{getD}
 use Rattle.theory.specs.Instance.{follow}
 use Rattle.paths.specs.declared.Paths.{Paths}
 use Rattle.instance.specs.Followed.{linkIn}
+use Rattle.instance.specs.Stored.{Leads}
 use Rattle.mapping.specs.PathEdges.{pathEdges}
 use Rattle.lifts.specs.Lifts.{joinedBefore}
-use Rattle.delta.specs.Stored.{Leads}
 
 -- the place of the first row of path i's end in its joined list
 abbrev pub endRow : Paths → List ℕ → List ℕ → ℕ → ℕ

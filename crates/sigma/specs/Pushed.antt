@@ -9,15 +9,15 @@ use Rattle.meaning.specs.Judge.{linksInRange}
 use Rattle.meaning.specs.Evenness.{even}
 use Rattle.meaning.specs.Sigma.{sigma}
 use Rattle.schema.specs.declared.Schema.{Schema}
-use Rattle.paths.specs.declared.Paths.{Paths}
 use Rattle.schema.specs.Decoded.{schemaOf}
+use Rattle.paths.specs.declared.Paths.{Paths}
 use Rattle.instance.specs.declared.Instance.{Instance}
 use Rattle.instance.specs.Decoded.{tablesOf, Limits}
+use Rattle.instance.specs.Stored.{Counts}
 use Rattle.mapping.specs.declared.Mapping.{Mapping}
 use Rattle.mapping.specs.Decoded.{mappingOf}
 use Rattle.mapping.specs.Judged.{Schemas, Sound}
 use Rattle.lifts.specs.Lifts.{joinedBefore}
-use Rattle.delta.specs.Stored.{Counts}
 use Rattle.sigma.specs.Joined.{AttributesOver}
 use Rattle.sigma.specs.Lifted.{LiftsLead}
 

@@ -1,6 +1,6 @@
 // Joined lists stored in a working array, node by node.
-use delta::columns::copy_column;
 use instance::Instance;
+use instance::copy::copy_column;
 use instance::decode::wide;
 use instance::follow::follow;
 use lifts::first_over;
@@ -17,8 +17,8 @@ ghost use lib.ListN.{length, getD};
 ghost use Rattle.theory.specs.Instance as theory;
 ghost use Rattle.instance.specs.Decoded.{Limits};
 ghost use Rattle.instance.specs.Followed.{linkIn};
+ghost use Rattle.instance.specs.Stored.{Leads, Stored};
 ghost use Rattle.mapping.specs.Decoded.{imageOf};
-ghost use Rattle.delta.specs.Stored.{Leads, Stored};
 ghost use Rattle.sigma.specs.Joined.{JoinedStored, attributeIn, valueOver, AttributesOver};
 ghost use Rattle.sigma.specs.Lifted.{LiftLeads, LiftsLead, liftRow};
 

@@ -3,9 +3,9 @@ use Prim.Native.Nat.{_-_}
 use native.Mathlib.Omega.{arith}
 use borrow.Author.Needs.{needs}
 use Rattle.instance.specs.Decoded.{rowsOf}
-use Rattle.delta.specs.Stored.{ColumnsStored}
+use Rattle.instance.specs.Stored.{ColumnsStored}
+use Rattle.instance.proofs.Storing.{columns-none, columns-more, columns-done}
 use Rattle.delta.specs.Pulled.{imageRow}
-use Rattle.delta.proofs.Storing.{columns-none, columns-more, columns-done}
 use Rattle.delta.proofs.delta_links.Statement.{statement}
 use Rattle.delta.proofs.delta_links.Tie as tie
 

@@ -2,9 +2,9 @@
 use Prim.Native.Nat.{_-_}
 use native.Mathlib.Omega.{arith}
 use Rattle.instance.specs.Decoded.{rowsOf}
-use Rattle.delta.specs.Stored.{ColumnsStored}
+use Rattle.instance.specs.Stored.{ColumnsStored}
+use Rattle.instance.proofs.Storing.{copied-stored, columns-none, columns-more, columns-done}
 use Rattle.delta.specs.Pulled.{imageValue}
-use Rattle.delta.proofs.Storing.{columns-none, columns-more, columns-done}
 use Rattle.delta.proofs.delta_values.Statement.{statement}
 use Rattle.delta.proofs.delta_values.Tie as tie
 
@@ -57,7 +57,7 @@ loop-again c =
     let p = c .before .before .before .before .before .before .before .before .before .before .before .before .before .pre in
     let v = c .before .before .before .before .before .before .before .loop .inv in
     let l = c .before .before .before .before .before .before .loop-test .taken in
-    columns-more (λ j m. p .0 .columns .rows j (omega arith)) v (rw (c .before .before .before .before .before .rows-of .ensures) at (c .before .before .copy-column .ensures))
+    columns-more (λ j m. p .0 .columns .rows j (omega arith)) v (rw (c .before .before .before .before .before .rows-of .ensures) at (copied-stored (c .before .before .copy-column .ensures)))
 
 same-length : tie.Need-same-length Inv-loop μ-loop
 same-length c = c .before .loop .inv .long

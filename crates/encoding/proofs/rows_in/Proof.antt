@@ -4,8 +4,8 @@ use mathlib.Core.Path.{_≡_, refl, ap, _∙_}
 use native.Mathlib.Omega.{arith}
 use native.Mathlib.Nat.{le-antisymm}
 use Rattle.instance.specs.Decoded.{rowsOf}
-use Rattle.encoding.specs.Written.{rowsIn}
 use Rattle.instance.proofs.Columns.{sumOf-more}
+use Rattle.encoding.specs.Written.{rowsIn}
 use Rattle.encoding.proofs.rows_in.Statement.{statement}
 use Rattle.encoding.proofs.rows_in.Tie as tie
 

@@ -5,9 +5,9 @@ use native.Mathlib.Omega.{arith}
 use lib.ListN.{length}
 use borrow.Author.Needs.{needs}
 use Rattle.instance.specs.Decoded.{rowsOf, Columns}
-use Rattle.encoding.specs.Written.{rowsIn}
 use Rattle.instance.proofs.Columns.{sumOf-few}
 use Rattle.instance.proofs.Decoding.{link-columns, value-columns}
+use Rattle.encoding.specs.Written.{rowsIn}
 use Rattle.encoding.proofs.sheet_length.Statement.{statement}
 use Rattle.encoding.proofs.sheet_length.Tie as tie
 

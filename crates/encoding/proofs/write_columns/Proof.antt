@@ -9,8 +9,8 @@ use Rattle.bits.specs.Put.{putAll}
 use Rattle.bits.proofs.Writing.{length-putAll}
 use Rattle.meaning.specs.Formats.{fieldsOf}
 use Rattle.instance.specs.Decoded.{rowsOf, columnOf}
-use Rattle.encoding.specs.Written.{rowsIn, columnFields}
 use Rattle.instance.proofs.Columns.{width-few, column-ends, sumOf-more}
+use Rattle.encoding.specs.Written.{rowsIn, columnFields}
 use Rattle.encoding.proofs.Writing.{put-none, putAll-more}
 use Rattle.encoding.proofs.write_columns.Statement.{statement}
 use Rattle.encoding.proofs.write_columns.Tie as tie

@@ -4,8 +4,8 @@ use mathlib.Core.Path.{_≡_, sym}
 use native.Mathlib.Omega.{arith}
 use lib.ListN.{length}
 use borrow.Author.Needs.{needs}
-use Rattle.encoding.specs.Written.{sheetBits}
 use Rattle.instance.proofs.Decoding.{link-columns, value-columns}
+use Rattle.encoding.specs.Written.{sheetBits}
 use Rattle.encoding.proofs.Writing.{sheet-written}
 use Rattle.encoding.proofs.write_instance.Statement.{statement}
 use Rattle.encoding.proofs.write_instance.Tie as tie

@@ -5,8 +5,8 @@ use native.Mathlib.Omega.{arith}
 use borrow.Author.Tests.{eq-eqb, ne-eqb}
 use Rattle.meaning.specs.Lists.{filter, headOr}
 use Rattle.meaning.proofs.Tabulate.{upto-tabulate}
-use Rattle.lifts.specs.Even.{isOver}
 use Rattle.mapping.proofs.Counting.{Searched, searched-start, searched-more, searched-hit, searched-done}
+use Rattle.lifts.specs.Even.{isOver}
 use Rattle.lifts.proofs.first_over.Statement.{statement}
 use Rattle.lifts.proofs.first_over.Tie as tie
 

@@ -6,8 +6,8 @@ use native.Mathlib.Omega.{arith}
 use borrow.Author.Tests.{leb-true}
 use Rattle.agreement.proofs.Paths.{pathCount}
 use Rattle.schema.specs.Decoded.{graphOf}
-use Rattle.paths.specs.Table.{IsTable}
 use Rattle.schema.proofs.Judging.{fit}
+use Rattle.paths.specs.Table.{IsTable}
 use Rattle.paths.proofs.path_table.Statement.{statement}
 use Rattle.paths.proofs.path_table.Tie as tie
 

@@ -2,9 +2,9 @@
 use Prim.Native.Nat.{_-_, _≤_}
 use mathlib.Core.Path.{refl}
 use native.Mathlib.Omega.{arith}
+use Rattle.instance.specs.Stored.{Counts}
+use Rattle.instance.proofs.Storing.{counts-none, counts-more, counts-done}
 use Rattle.lifts.specs.Lifts.{joinedBefore}
-use Rattle.delta.specs.Stored.{Counts}
-use Rattle.delta.proofs.Storing.{counts-none, counts-more, counts-done}
 use Rattle.sigma.proofs.Joining.{joined-few}
 use Rattle.sigma.proofs.sigma_counts.Statement.{statement}
 use Rattle.sigma.proofs.sigma_counts.Tie as tie

@@ -4,8 +4,8 @@ use mathlib.Core.Path.{refl}
 use native.Mathlib.Omega.{arith}
 use borrow.Author.Needs.{needs}
 use Rattle.instance.specs.Decoded.{rowsOf}
-use Rattle.delta.specs.Stored.{Counts}
-use Rattle.delta.proofs.Storing.{counts-none, counts-more, counts-done}
+use Rattle.instance.specs.Stored.{Counts}
+use Rattle.instance.proofs.Storing.{counts-none, counts-more, counts-done}
 use Rattle.delta.proofs.columns.count_column.Statement.{statement}
 use Rattle.delta.proofs.columns.count_column.Tie as tie
 

@@ -7,8 +7,8 @@ use borrow.Author.Needs.{needs}
 use Rattle.theory.specs.Instance.{follow}
 use Rattle.schema.specs.Decoded.{frontOf}
 use Rattle.instance.specs.Followed.{linkIn}
-use Rattle.delta.specs.Stored.{Stored}
-use Rattle.delta.proofs.Storing.{stored-none, stored-more, stored-done}
+use Rattle.instance.specs.Stored.{Stored}
+use Rattle.instance.proofs.Storing.{stored-none, stored-more, stored-done}
 use Rattle.delta.proofs.columns.follow_column.Statement.{statement}
 use Rattle.delta.proofs.columns.follow_column.Tie as tie
 

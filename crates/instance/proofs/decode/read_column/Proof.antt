@@ -7,19 +7,20 @@ use native.Mathlib.Numerals.{add-one}
 use lib.ListN.{length}
 use borrow.Author.Needs.{needs}
 use Rattle.bits.specs.Field.{field}
-use Rattle.instance.specs.Decoded.{Stored}
-use Rattle.instance.proofs.Columns.{field-ends, stored-none, stored-more}
+use Rattle.instance.specs.Stored.{Stored}
+use Rattle.instance.proofs.Storing.{stored-none, stored-more, stored-done}
+use Rattle.instance.proofs.Columns.{field-ends}
 use Rattle.instance.proofs.decode.read_column.Statement.{statement}
 use Rattle.instance.proofs.decode.read_column.Tie as tie
 
 abbrev Inv-loop : tie.InvT-loop
-Inv-loop s at width n out₀ base i₀ p₀ out i p = (i ≤ n) × (p ≡ at + width * i) × Stored s at width i base out₀ out
+Inv-loop s at width n out₀ base i₀ p₀ out i p = (i ≤ n) × (p ≡ at + width * i) × Stored (λ k. field s (at + width * k) width) i base out₀ out
 
 abbrev μ-loop : tie.MeasureT-loop
 μ-loop s at width n out₀ base i₀ p₀ out i p = n - i
 
 loop-holds : tie.Need-loop-holds Inv-loop μ-loop
-loop-holds c = (omega arith, rw mul-zero (omega arith), stored-none _ _ _ _ _)
+loop-holds c = (omega arith, rw mul-zero (omega arith), stored-none _ _ _)
 
 number-requires : tie.Need-number-requires Inv-loop μ-loop
 number-requires c κs =
@@ -64,9 +65,7 @@ same-length : tie.Need-same-length Inv-loop μ-loop
 same-length c = c .before .loop .inv .2 .long
 
 returns : tie.Need-returns Inv-loop μ-loop
-returns c =
-    let u = c .before .loop .inv .2 in
-    record { each = λ i h. u .each i (omega (arith, c .loop-test .left)); below = u .below; long = u .long }
+returns c = stored-done (c .before .loop .inv .2) (c .loop-test .left)
 
 pub read-column-spec : {M : Type 1} → statement M
 read-column-spec =

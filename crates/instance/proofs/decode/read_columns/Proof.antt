@@ -110,7 +110,7 @@ loop-again c =
       some = omega arith;
       inside = h;
       near = omega (arith, v .near);
-      so-far = rw (columns-more (rowsOf (a .home .now) (a .counts .now)) (l .k) (l .p) (a .width) (λ j m. C .rows j (omega arith)) stored, e)
+      so-far = rw (columns-more (rowsOf (a .home .now) (a .counts .now)) (l .k) (λ j m. C .rows j (omega arith)) stored, e)
           (turned-step (v .so-far) t (fixed-times (rowsOf (a .home .now) (a .counts .now) (l .k)) (fixed-field (a .width)) .here (a .s .now) (l .p) (rw e at h)));
       long = b .ensures .long ∙ v .long;
     }

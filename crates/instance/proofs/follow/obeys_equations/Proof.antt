@@ -8,8 +8,8 @@ use borrow.Author.Needs.{needs}
 use Rattle.meaning.specs.Schema.{Equation}
 use Rattle.meaning.proofs.Tabulate.{Passed, passed-start, passed-more, passed-fail, passed-done}
 use Rattle.schema.specs.Decoded.{equationOf, noPath}
+use Rattle.schema.proofs.SoundSchema.{sides-at}
 use Rattle.instance.specs.Decoded.{tablesOf}
-use Rattle.instance.proofs.SoundSchema.{sides-at}
 use Rattle.instance.proofs.Following.{equationTest, equation-at, left-followable, right-followable}
 use Rattle.instance.proofs.follow.obeys_equations.Statement.{statement}
 use Rattle.instance.proofs.follow.obeys_equations.Tie as tie

@@ -4,8 +4,8 @@ use mathlib.Core.Path.{sym}
 use native.Mathlib.Omega.{arith}
 use borrow.Author.Tests.{eq-eqb, ne-eqb}
 use Rattle.meaning.proofs.Tabulate.{Passed, passed-start, passed-more}
-use Rattle.lifts.specs.Even.{evenColumnAt}
 use Rattle.mapping.proofs.Viewing.{upto-fail, upto-done}
+use Rattle.lifts.specs.Even.{evenColumnAt}
 use Rattle.lifts.proofs.even.columns_even.Statement.{statement}
 use Rattle.lifts.proofs.even.columns_even.Tie as tie
 

@@ -8,8 +8,8 @@ use lib.ListN.{length}
 use Rattle.theory.specs.Numbering.{tabulate}
 use Rattle.meaning.specs.Lists.{filter}
 use Rattle.meaning.proofs.Tabulate.{upto-tabulate}
-use Rattle.lifts.specs.Even.{isOver}
 use Rattle.mapping.proofs.Counting.{count-more, count-skip, count-low}
+use Rattle.lifts.specs.Even.{isOver}
 use Rattle.lifts.proofs.even.count_over.Statement.{statement}
 use Rattle.lifts.proofs.even.count_over.Tie as tie
 

@@ -6,8 +6,8 @@ use native.Mathlib.Omega.{arith}
 use borrow.Author.Needs.{needs}
 use borrow.Author.Tests.{eq-eqb, ne-eqb}
 use Rattle.meaning.proofs.Tabulate.{Passed, passed-start, passed-more}
-use Rattle.lifts.specs.Even.{hasLiftAt}
 use Rattle.mapping.proofs.Viewing.{upto-fail, upto-done}
+use Rattle.lifts.specs.Even.{hasLiftAt}
 use Rattle.lifts.proofs.Lifting.{has-lift-other, has-lift-is}
 use Rattle.lifts.proofs.even.each_has_lift.Statement.{statement}
 use Rattle.lifts.proofs.even.each_has_lift.Tie as tie

@@ -6,8 +6,8 @@ use native.Mathlib.Omega.{arith}
 use borrow.Author.Needs.{needs}
 use borrow.Author.Tests.{eq-eqb, ne-eqb}
 use Rattle.meaning.proofs.Tabulate.{Passed, passed-start, passed-more}
-use Rattle.lifts.specs.Even.{uniqueAt}
 use Rattle.mapping.proofs.Viewing.{upto-fail, upto-done}
+use Rattle.lifts.specs.Even.{uniqueAt}
 use Rattle.lifts.proofs.Lifting.{unique-other, unique-is}
 use Rattle.lifts.proofs.even.lifts_unique.Statement.{statement}
 use Rattle.lifts.proofs.even.lifts_unique.Tie as tie

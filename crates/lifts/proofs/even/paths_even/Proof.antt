@@ -3,8 +3,8 @@ use Prim.Native.Nat.{_-_}
 use mathlib.Core.Path.{sym, _∙_}
 use native.Mathlib.Omega.{arith}
 use Rattle.meaning.proofs.Tabulate.{Passed, passed-start, passed-more}
-use Rattle.lifts.specs.Even.{evenPathsAt}
 use Rattle.mapping.proofs.Viewing.{upto-fail, upto-done}
+use Rattle.lifts.specs.Even.{evenPathsAt}
 use Rattle.lifts.proofs.even.paths_even.Statement.{statement}
 use Rattle.lifts.proofs.even.paths_even.Tie as tie
 

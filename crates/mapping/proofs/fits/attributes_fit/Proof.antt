@@ -5,8 +5,9 @@ use native.Mathlib.Omega.{arith}
 use lib.ListN.{getD}
 use borrow.Author.Needs.{needs}
 use Rattle.meaning.proofs.Tabulate.{Passed, passed-start, passed-more}
+use Rattle.schema.proofs.SoundSchema.{home-in}
 use Rattle.mapping.proofs.Viewing.{upto-fail, upto-done}
-use Rattle.mapping.proofs.Fitting.{attributeTest, attributes-test, home-in}
+use Rattle.mapping.proofs.Fitting.{attributeTest, attributes-test}
 use Rattle.mapping.proofs.fits.attributes_fit.Statement.{statement}
 use Rattle.mapping.proofs.fits.attributes_fit.Tie as tie
 

@@ -5,8 +5,9 @@ use native.Mathlib.Omega.{arith}
 use lib.ListN.{getD}
 use borrow.Author.Needs.{needs}
 use Rattle.meaning.proofs.Tabulate.{Passed, passed-start, passed-more}
+use Rattle.schema.proofs.SoundSchema.{source-in, target-in}
 use Rattle.mapping.proofs.Viewing.{upto-fail, upto-done}
-use Rattle.mapping.proofs.Fitting.{edgeTest, edges-test, source-in, target-in}
+use Rattle.mapping.proofs.Fitting.{edgeTest, edges-test}
 use Rattle.mapping.proofs.fits.edges_fit.Statement.{statement}
 use Rattle.mapping.proofs.fits.edges_fit.Tie as tie
 

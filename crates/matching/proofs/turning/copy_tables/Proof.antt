@@ -23,8 +23,8 @@ table-among-requires c κs = (c .loop-test .taken, c .before .before .before .be
 table-among-requires-2 : tie.Need-table-among-requires-2 Inv-loop μ-loop
 table-among-requires-2 c κs = (c .before .loop-test .taken, c .before .before .before .before .before .pre .few)
 
-copy-rows-requires : tie.Need-copy-rows-requires Inv-loop μ-loop
-copy-rows-requires c κs = rw (c .before .before .table-among .ensures, c .before .table-among2 .ensures) (c .before .before .before .before .before .before .before .pre .here (c .before .before .before .before .loop .c) (c .before .before .before .loop-test .taken), omega (arith, c .before .before .before .before .before .before .before .pre .there (c .before .before .before .before .loop .c) (c .before .before .before .loop-test .taken), c .before .before .before .before .loop .inv .2))
+copy-column-requires : tie.Need-copy-column-requires Inv-loop μ-loop
+copy-column-requires c κs = rw (c .before .before .table-among .ensures, c .before .table-among2 .ensures) (c .before .before .before .before .before .before .before .pre .here (c .before .before .before .before .loop .c) (c .before .before .before .loop-test .taken), omega (arith, c .before .before .before .before .before .before .before .pre .there (c .before .before .before .before .loop .c) (c .before .before .before .loop-test .taken), c .before .before .before .before .loop .inv .2))
 
 add-c : tie.Need-add-c Inv-loop μ-loop
 add-c c = omega (arith, c .before .before .before .before .before .before .before .before .before .before .pre .few)
@@ -33,7 +33,7 @@ loop-less : tie.Need-loop-less Inv-loop μ-loop
 loop-less c = omega arith
 
 loop-again : tie.Need-loop-again Inv-loop μ-loop
-loop-again c = let r = rw (c .before .before .before .before .before .table-among .ensures, c .before .before .before .before .table-among2 .ensures) at (c .before .before .copy-rows .ensures) in (omega arith, moved-more (c .before .before .before .before .before .before .before .before .before .before .pre) (c .before .before .before .before .before .before .before .loop .inv .1) (c .before .before .before .before .before .before .loop-test .taken) r, r .long ∙ c .before .before .before .before .before .before .before .loop .inv .2)
+loop-again c = let r = rw (c .before .before .before .before .before .table-among .ensures, c .before .before .before .before .table-among2 .ensures) at (c .before .before .copy-column .ensures) in (omega arith, moved-more (c .before .before .before .before .before .before .before .before .before .before .pre) (c .before .before .before .before .before .before .before .loop .inv .1) (c .before .before .before .before .before .before .loop-test .taken) r, r .long ∙ c .before .before .before .before .before .before .before .loop .inv .2)
 
 same-length : tie.Need-same-length Inv-loop μ-loop
 same-length c = c .before .loop .inv .2
@@ -50,7 +50,7 @@ copy-tables-spec =
     loop-holds
     table-among-requires
     table-among-requires-2
-    copy-rows-requires
+    copy-column-requires
     add-c
     loop-less
     loop-again

@@ -6,9 +6,9 @@ use lib.ListN.{length}
 use Rattle.meaning.specs.Schema.{Graph, source}
 use Rattle.agreement.proofs.Paths.{pathCount}
 use Rattle.schema.specs.Decoded.{graphOf}
+use Rattle.schema.proofs.GraphEdges.{edges-count, target-at}
 use Rattle.paths.specs.PathNumbers.{firstOf, endOf}
 use Rattle.paths.specs.Table.{Filled, Columns, NextLeaving}
-use Rattle.schema.proofs.GraphEdges.{edges-count, target-at}
 use Rattle.paths.proofs.PathNumbers.{first-low}
 use Rattle.paths.proofs.Filling.{filled-more, length-low, Filling, filling-start, filling-row, filling-end, filling-to, filling-in, filling-is, filling-more, filling-first, filling-done}
 use Rattle.paths.proofs.table.fill.Statement.{statement}

@@ -3,8 +3,8 @@ use Prim.Native.Nat.{_-_, _≤_}
 use mathlib.Core.Path.{_≡_, refl, sym, _∙_}
 use native.Mathlib.Omega.{arith}
 use Rattle.schema.specs.Decoded.{graphOf}
-use Rattle.paths.specs.PathNumbers.{leavingBelow}
 use Rattle.schema.proofs.GraphEdges.{edges-count, source-at}
+use Rattle.paths.specs.PathNumbers.{leavingBelow}
 use Rattle.paths.proofs.PathNumbers.{below-skip}
 use Rattle.paths.proofs.table.next_leaving.Statement.{statement}
 use Rattle.paths.proofs.table.next_leaving.Tie as tie

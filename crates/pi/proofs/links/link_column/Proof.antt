@@ -3,8 +3,8 @@ use Prim.Native.Nat.{_+_, _-_, _<_}
 use native.Mathlib.Omega.{arith}
 use borrow.Author.Needs.{needs}
 use lib.ListN.{length, getD}
-use Rattle.delta.specs.Stored.{Stored}
-use Rattle.delta.proofs.Storing.{stored-none, stored-more, stored-done}
+use Rattle.instance.specs.Stored.{Stored}
+use Rattle.instance.proofs.Storing.{stored-none, stored-more, stored-done}
 use Rattle.pi.specs.Links.{linkPlace}
 use Rattle.pi.proofs.Rows.{found-link, link-low}
 use Rattle.pi.proofs.links.link_column.Statement.{statement}

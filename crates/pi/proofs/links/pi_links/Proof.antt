@@ -4,8 +4,8 @@ use mathlib.Core.Path.{_≡_, ap, _∙_}
 use native.Mathlib.Omega.{arith}
 use borrow.Author.Needs.{needs}
 use Rattle.instance.specs.Decoded.{rowsOf}
-use Rattle.delta.specs.Stored.{ColumnsStored}
-use Rattle.delta.proofs.Storing.{columns-none, columns-more, columns-done}
+use Rattle.instance.specs.Stored.{ColumnsStored}
+use Rattle.instance.proofs.Storing.{columns-none, columns-more, columns-done}
 use Rattle.pi.specs.Links.{sourceOf, targetOf, tableRows, linkRow}
 use Rattle.pi.proofs.Rows.{link-stored}
 use Rattle.pi.proofs.links.pi_links.Statement.{statement}

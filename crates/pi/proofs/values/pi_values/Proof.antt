@@ -5,8 +5,8 @@ use native.Mathlib.Omega.{arith}
 use borrow.Author.Needs.{needs}
 use lib.ListN.{length}
 use Rattle.instance.specs.Decoded.{rowsOf}
-use Rattle.delta.specs.Stored.{ColumnsStored}
-use Rattle.delta.proofs.Storing.{columns-none, columns-more, columns-done}
+use Rattle.instance.specs.Stored.{ColumnsStored}
+use Rattle.instance.proofs.Storing.{columns-none, columns-more, columns-done}
 use Rattle.pi.specs.Links.{tableRows}
 use Rattle.pi.specs.Values.{attributeNode, valueRow}
 use Rattle.pi.proofs.ValueColumns.{value-stored}

@@ -4,8 +4,8 @@ use mathlib.Core.Path.{ap, _∙_}
 use native.Mathlib.Omega.{arith}
 use borrow.Author.Needs.{needs}
 use lib.ListN.{length}
-use Rattle.delta.specs.Stored.{Stored}
-use Rattle.delta.proofs.Storing.{stored-none, stored-more, stored-done}
+use Rattle.instance.specs.Stored.{Stored}
+use Rattle.instance.proofs.Storing.{stored-none, stored-more, stored-done}
 use Rattle.pi.specs.Links.{entryOf}
 use Rattle.pi.specs.Values.{valueThrough}
 use Rattle.pi.proofs.values.value_column.Statement.{statement}

@@ -4,6 +4,7 @@ use mathlib.Core.Path.{_≡_}
 use native.Mathlib.Omega.{arith}
 use lib.ListN.{length}
 use borrow.Author.Needs.{needs}
+use Rattle.instance.proofs.Storing.{copied-stored}
 use Rattle.sigma.proofs.Joining.{headOr-low}
 use Rattle.sigma.proofs.columns.copy_over.Statement.{statement}
 use Rattle.sigma.proofs.columns.copy_over.Tie as tie
@@ -42,7 +43,7 @@ same-length : tie.Need-same-length
 same-length c = search needs
 
 returns : tie.Need-returns
-returns c = rw (c .before .before .before .before .first-over .ensures) at (c .before .before .copy-column .ensures)
+returns c = rw (c .before .before .before .before .first-over .ensures) at (copied-stored (c .before .before .copy-column .ensures))
 
 pub copy-over-spec : {M : Type 1} → statement M
 copy-over-spec =

@@ -7,8 +7,8 @@ use borrow.Author.Needs.{needs}
 use Rattle.theory.specs.Instance.{follow}
 use Rattle.schema.specs.Decoded.{frontOf}
 use Rattle.instance.specs.Followed.{linkIn}
-use Rattle.delta.specs.Stored.{Stored}
-use Rattle.delta.proofs.Storing.{stored-none, stored-more, stored-done}
+use Rattle.instance.specs.Stored.{Stored}
+use Rattle.instance.proofs.Storing.{stored-none, stored-more, stored-done}
 use Rattle.sigma.proofs.columns.place_column.Statement.{statement}
 use Rattle.sigma.proofs.columns.place_column.Tie as tie
 

@@ -1,4 +1,4 @@
--- `instance::tables::layout` meets its contract.
+-- `instance::tables::table_list` meets its contract.
 use Prim.Native.Nat.{ℕ, _-_, _*_, _≤_, _<_}
 use mathlib.Core.Path.{_≡_, refl, ap₂, _∙_}
 use mathlib.Core.List.{List}
@@ -13,8 +13,8 @@ use Rattle.instance.specs.declared.tables.Table.{Table}
 use Rattle.instance.specs.Tables.{noTable}
 use Rattle.instance.proofs.Columns.{sumOf-more}
 use Rattle.instance.proofs.TableList.{tableAt, laid}
-use Rattle.instance.proofs.tables.layout.Statement.{statement}
-use Rattle.instance.proofs.tables.layout.Tie as tie
+use Rattle.instance.proofs.tables.table_list.Statement.{statement}
+use Rattle.instance.proofs.tables.table_list.Tie as tie
 
 -- the first c tables are laid out, and the next begins at row first
 record Laying (counts : List ℕ) (n : ℕ) (list : List Table) (first c : ℕ) : Type 0 where
@@ -74,8 +74,8 @@ loop-again c =
 returns : tie.Need-returns Inv-loop μ-loop
 returns c = let l = c .before .loop in laid (c .before .before .before .args .counts .now) (c .before .before .before .args .n) (l .list) (λ k h. l .inv .each k (omega (arith, c .loop-test .left)))
 
-pub layout-spec : {M : Type 1} → statement M
-layout-spec =
+pub table-list-spec : {M : Type 1} → statement M
+table-list-spec =
     tie.close
     (tie.spec
     Inv-loop

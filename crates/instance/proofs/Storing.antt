@@ -7,7 +7,7 @@ use borrow.Author.Count.{below-none, below-more}
 use lib.ListN.{length, getD, set, length-set}
 use lib.Seq.{getD-set-same, getD-set-other}
 use Rattle.meaning.proofs.Tabulate.{filled}
-use Rattle.delta.specs.Stored.{Counts, Stored, ColumnsStored}
+use Rattle.instance.specs.Stored.{Counts, Stored, Copied, ColumnsStored}
 
 -- ---- at the front of an array of 16
 pub counts-none : (g : ℕ → ℕ) (l : List ℕ) → length l ≡ 16 → Counts 0 g l
@@ -37,6 +37,24 @@ stored-more {g} {i} {base} {l} {r} {v} u h e = record {
 
 pub stored-done : {g : ℕ → ℕ} {n i base : ℕ} {l r : List ℕ} → Stored g i base l r → n ≤ i → Stored g n base l r
 stored-done u h = record { each = λ k m. u .each k (omega arith); below = u .below; long = u .long }
+
+-- ---- copied
+pub copied-none : (list : List ℕ) (place base : ℕ) (l : List ℕ) → Copied list place 0 base l l
+copied-none list place base l = record { each = below-none _; other = λ k h. refl; long = refl }
+
+pub copied-more : {list : List ℕ} {place i base : ℕ} {l r : List ℕ} → Copied list place i base l r → base + i < length r → Copied list place (i + 1) base l (set r (base + i) (getD list (place + i) 0))
+copied-more {list} {place} {i} {base} {l} {r} u h =
+    let v = getD list (place + i) 0 in
+    record {
+      each = below-more (λ k. getD (set r (base + i) v) (base + k) 0 ≡ getD list (place + k) 0) i
+          (λ k m. getD-set-other r (base + i) (base + k) v 0 (λ q. let z : base + k ≡ base + i = q in omega arith) ∙ u .each k m)
+          (getD-set-same r (base + i) v 0 h);
+      other = λ k g. getD-set-other r (base + i) k v 0 (g i (omega arith)) ∙ u .other k (λ j m. g j (omega arith));
+      long = length-set r (base + i) v ∙ u .long;
+    }
+
+pub copied-stored : {list : List ℕ} {place n base : ℕ} {l r : List ℕ} → Copied list place n base l r → Stored (λ i. getD list (place + i) 0) n base l r
+copied-stored {base = base} u = record { each = u .each; below = λ k h. u .other k (λ i m e. let z : k ≡ base + i = e in omega arith); long = u .long }
 
 -- ---- column by column
 pub columns-none : (rows : ℕ → ℕ) (g : ℕ → ℕ → ℕ) (l : List ℕ) → ColumnsStored 0 rows g l l
