@@ -1,4 +1,4 @@
--- Columns stored number by number, and column by column.
+-- Columns stored and copied number by number, and stored column by column.
 use Prim.Native.Nat.{ℕ, _+_, _*_, _≤_, _<_}
 use mathlib.Core.Path.{_≡_, refl, _∙_}
 use mathlib.Core.List.{List}
