@@ -17,7 +17,7 @@ use Rattle.meaning.specs.Formats.{Mapping}
 use Rattle.meaning.specs.Views.{attributeImage, mappingOf}
 use Rattle.meaning.specs.Pi.{isBijective, attributeTo}
 use Rattle.meaning.proofs.Lists.{no-bool, test-false, filter-in, all-upto, upto-all, position-in, position-passes}
-use Rattle.agreement.proofs.Valid.{ValidMapping}
+use Rattle.agreement.specs.Valid.{ValidMapping}
 
 module _ {A : Type 0} (f : A → Bool) (z : A) where
   -- i is the one place of l whose element passes

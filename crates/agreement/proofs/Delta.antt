@@ -11,11 +11,10 @@ use Rattle.theory.proofs.Mapping.{delta-is}
 use Rattle.meaning.specs.Lists.{sumOf}
 use Rattle.meaning.specs.Schema.{Schema, source, attributeAt}
 use Rattle.meaning.specs.Formats.{Mapping, Instance, maxRows}
-use Rattle.meaning.specs.Views.{schemaOf, nodeImage, edgeImage, attributeImage, mappingOf, count, rows, column, follow, instanceOf}
+use Rattle.meaning.specs.Views.{Shaped, schemaOf, nodeImage, edgeImage, attributeImage, mappingOf, count, rows, column, follow, instanceOf}
 use Rattle.meaning.specs.Delta.{delta}
-use Rattle.meaning.proofs.Facts.{Shaped}
 use Rattle.agreement.proofs.Tables.{rows-sum}
-use Rattle.agreement.proofs.Valid.{ValidMapping, ValidInstance}
+use Rattle.agreement.specs.Valid.{ValidMapping, ValidInstance}
 use Rattle.agreement.proofs.Joined.{map-upto-length, map-upto-getD}
 
 module _ (S : Schema) (F : Mapping) (J : Instance) where

@@ -26,11 +26,11 @@ use Rattle.meaning.specs.Sigma.{sigma}
 use Rattle.meaning.specs.Matching.{judgeMatching}
 use Rattle.meaning.specs.Calls.{Outcome, refused, accepted, _>>=_, at, Sides, sides, judgePushed, judgeRaw, checkPushed, checkRaw, pushedToRaw, rawToPushed, inTray}
 use Rattle.meaning.proofs.Examples.{vendor, operator, vendorToOperator, run, book}
-use Rattle.agreement.specs.Demand3.{Accepts, Refuses, RefusesTray, Provided, pushedSide, rawSide, Demand3, AllRefuse}
-use Rattle.agreement.proofs.Instances.{InRange}
+use Rattle.agreement.specs.Demand3.{Accepts, Refuses, RefusesTray, meaningAnswers, Provided, pushedSide, rawSide, Clauses, AllRefuse}
+use Rattle.agreement.specs.Valid.{InRange, ValidMapping, ValidInstance}
 use Rattle.agreement.proofs.Tables.{rows-sum, matching-below}
 use Rattle.agreement.proofs.Accepted.{at-accepted, SidesSound, sides-accepted, sides-accepts}
-use Rattle.agreement.proofs.Valid.{ValidMapping, ValidInstance, mapping-valid, instance-valid}
+use Rattle.agreement.proofs.Valid.{mapping-valid, instance-valid}
 use Rattle.agreement.proofs.Evenness.{even-iff}
 use Rattle.agreement.proofs.Delta.{delta-alike, delta-rows}
 use Rattle.agreement.proofs.Sigma.{sigma-is-sigma, sigma-valid}
@@ -179,7 +179,7 @@ module _ {s t f i j : List ℕ} (x : Provided s t f i j) where
     below = λ l m. matching-below S (x .run) pulled l pulled-few (raw-matches l .1 m);
   }
 
-  pub demand3 : Demand3 x
+  pub demand3 : Clauses x (meaningAnswers s t f i j)
   demand3 = record {
     pushed-checked = checks pushed-reads (checkPushed s t f i j) (λ k. after-sides _);
     raw-checked = checks raw-reads (checkRaw s t f i j) (λ k. after-sides _);
@@ -247,7 +247,7 @@ module _ (s t f i j : List ℕ) where
     refused-tray : (tray : List ℕ) {o : Outcome (List ℕ)} → Refuses o → RefusesTray tray (inTray tray o)
     refused-tray tray r = record { refuses = (r .0, r .1, ap (λ (o : Outcome (List ℕ)). inTray tray o .answer) (r .2)); unchanged = ap (λ (o : Outcome (List ℕ)). inTray tray o .tray) (r .2) }
 
-    pub unprovided-refused : AllRefuse s t f i j
+    pub unprovided-refused : AllRefuse (meaningAnswers s t f i j)
     unprovided-refused = record {
       pushed-refused = λ k. refused-then _;
       raw-refused = λ k. refused-then _;

@@ -24,7 +24,7 @@ use Rattle.meaning.proofs.Tabulate.{and-both}
 use Rattle.meaning.proofs.Lists.{no-bool, and-intro, filter-in, filter-of, all-in, all-of, in-upto, of-upto, all-upto, upto-all, sorted-filter, sorted-upto}
 use Rattle.agreement.proofs.Paths.{pathsFrom-each}
 use Rattle.agreement.proofs.Classes.{equal-iff}
-use Rattle.agreement.proofs.Valid.{ValidMapping}
+use Rattle.agreement.specs.Valid.{ValidMapping}
 
 -- ---- lists
 

@@ -1,4 +1,4 @@
--- Meaning agrees with theory, from paths up to demand 3; `Statements` gathers what is shown.
+-- Meaning agrees with theory, from paths up to demand 3; `promises` gathers what is shown.
 pub mod Paths
 pub mod Loops
 pub mod Steps
@@ -20,8 +20,8 @@ pub mod Components
 pub mod Families
 pub mod Bijections
 pub mod Pi
-pub mod PiCall
+pub mod AcceptedSheets
+pub mod Agrees
 pub mod Matchings
 pub mod Turning
 pub mod Demand3
-pub mod Statements

@@ -1,4 +1,4 @@
--- Tests 7 and 8 decide the theory's mappings.
+-- Tests 7 and 8 decide the theory's mappings, and each of them its part.
 use Prim.Native.Nat.{ℕ, _<_}
 use mathlib.Core.Path.{_≡_, sym, subst}
 use mathlib.Core.Bool.{true, _&&_}
@@ -7,9 +7,9 @@ use mathlib.Core.Logic.{_↔_}
 use lib.ListN.{length}
 use lib.Dec.{ltb, eqb}
 use borrow.Author.Tests.{ltb-true, lt-ltb, eqb-true, eq-eqb}
-use Rattle.theory.specs.Schema.{IsPath, Chain, endpoint}
+use Rattle.theory.specs.Schema.{IsPath, endpoint}
 use Rattle.theory.specs.Mapping.{IsMapping, image}
-use Rattle.theory.proofs.Mapping.{CarriesPaths, carried-path, image-path}
+use Rattle.theory.proofs.Mapping.{CarriesPaths, carried-path}
 use Rattle.meaning.specs.Lists.{upto, all}
 use Rattle.meaning.specs.Schema.{path, Equation, Schema, source, target, attributeAt, joins}
 use Rattle.meaning.specs.PathEquality.{equal}
@@ -19,7 +19,9 @@ use Rattle.meaning.specs.Sheet.{sound}
 use Rattle.meaning.specs.Judge.{judgeMapping, edgeImageFits, attributeImageFits, imagesFit, keepsEquations}
 use Rattle.meaning.proofs.Tabulate.{and-both}
 use Rattle.meaning.proofs.Lists.{and-intro, all-in, all-of, all-upto, upto-all, all-places, places-all}
-use Rattle.agreement.proofs.Paths.{WellFormed, schema-is, same-starts, path-iff}
+use Rattle.agreement.specs.Paths.{WellFormed}
+use Rattle.agreement.specs.Valid.{ImagesFit, KeepsEquations}
+use Rattle.agreement.proofs.Paths.{schema-is, same-starts, path-iff}
 use Rattle.agreement.proofs.Classes.{equal-iff}
 use Rattle.meaning.proofs.Facts.{SchemaFacts, mapping-facts}
 
@@ -74,7 +76,7 @@ module _ (S T : Schema) (F : Mapping) (s : WellFormed S) (t : WellFormed T) (nod
     carried : (n : ℕ) (p : List ℕ) → IsPath (schemaOf S) n p → IsPath (schemaOf T) (nodeImage F n) (image (edgeImage F) p)
     carried = carried-path (carries s t f)
 
-    keeps : keepsEquations S T F ≡ true → (n : ℕ) (a b : List ℕ) → IsListed S n a b → Chain (schemaOf T) (nodeImage F n) (image (edgeImage F) a) (image (edgeImage F) b)
+    keeps : keepsEquations S T F ≡ true → KeepsEquations (mappingOf S T F)
     keeps h n a b (listed {q} m) =
         let r = schema-is S (s .fits) in
         let e : equal T (pathImage F (q .left)) (pathImage F (q .right)) ≡ true = all-of (λ (q : Equation). equal T (pathImage F (q .left)) (pathImage F (q .right))) (S .equations) h m in
@@ -97,26 +99,21 @@ module _ (S T : Schema) (F : Mapping) (s : WellFormed S) (t : WellFormed T) (nod
         let v = and-both exists kind (u .0) in
         record { exists = ltb-true b (length (T .attributes)) (v .0); kind = eqb-true (attributeAt T b .kind) (attributeAt S a .kind) (v .1); home = eqb-true (attributeAt T b .node) (nodeImage F (attributeAt S a .node)) (u .1) }
 
-  pub mapping-is : imagesFit S T F ≡ true → keepsEquations S T F ≡ true → IsMapping (mappingOf S T F)
-  mapping-is h k =
-      let f = fits S T F nodes h in
-      let c = carries s t f in
-      record {
-        S-is = schema-is S (s .fits);
-        T-is = schema-is T (t .fits);
-        node-in = c .node-in;
-        edge-path = c .edge-path;
-        edge-end = c .edge-end;
-        equation = keeps f k;
-        attribute-in = λ a l. imaged f a l .exists;
-        attribute-home = λ a l. imaged f a l .home;
-        attribute-kind = λ a l. imaged f a l .kind;
-      }
-
-  module _ (is : IsMapping (mappingOf S T F)) where
-    images-fit : imagesFit S T F ≡ true
-    images-fit =
-        and-intro (and-intro
+  -- 7, and 8 where 7 is passed
+  pub images-iff : (imagesFit S T F ≡ true) ↔ ImagesFit (mappingOf S T F)
+  images-iff = (
+    λ h.
+        let f = fits S T F nodes h in
+        let c = carries s t f in
+        record {
+          node-in = c .node-in;
+          edge-path = c .edge-path;
+          edge-end = c .edge-end;
+          attribute-in = λ a l. imaged f a l .exists;
+          attribute-home = λ a l. imaged f a l .home;
+          attribute-kind = λ a l. imaged f a l .kind;
+        },
+    λ is. and-intro (and-intro
         (places-all (λ d. ltb d (T .graph .nodes)) (F .nodes) 0 (λ c l. lt-ltb (nodeImage F c) (T .graph .nodes) (is .node-in c (rw nodes at l))))
         (all-upto (edgeImageFits S T F) (length (S .graph .edges)) (λ e l.
         let n = nodeImage F (source (S .graph) e) in
@@ -124,22 +121,55 @@ module _ (S T : Schema) (F : Mapping) (s : WellFormed S) (t : WellFormed T) (nod
         (all-upto (attributeImageFits S T F) (length (S .attributes)) (λ a l.
         let b = attributeImage F a in
         and-intro (and-intro (lt-ltb b (length (T .attributes)) (is .attribute-in a l)) (eq-eqb (attributeAt T b .kind) (attributeAt S a .kind) (is .attribute-kind a l)))
-        (eq-eqb (attributeAt T b .node) (nodeImage F (attributeAt S a .node)) (is .attribute-home a l))))
+        (eq-eqb (attributeAt T b .node) (nodeImage F (attributeAt S a .node)) (is .attribute-home a l)))),
+  )
 
-    equations-kept : keepsEquations S T F ≡ true
-    equations-kept =
-        all-in (λ (q : Equation). equal T (pathImage F (q .left)) (pathImage F (q .right))) (S .equations) (λ q m.
-        let n = q .left .start in
-        let a = q .left .edges in
-        let b = q .right .edges in
-        let q-is : IsListed S n a b = listed m in
-        let e : equal T (path (nodeImage F n) (image (edgeImage F) a)) (path (nodeImage F n) (image (edgeImage F) b)) ≡ true =
-        equal-iff T t (nodeImage F n) (image (edgeImage F) a) (image (edgeImage F) b) (image-path is n a (is .S-is .left n a b q-is)) (image-path is n b (is .S-is .right n a b q-is)) .1 (is .equation n a b q-is)
-        in
-        subst (λ (c : ℕ). equal T (pathImage F (q .left)) (path (nodeImage F c) (image (edgeImage F) b)) ≡ true) (same-starts S (s .fits) q m) e)
+  pub keeps-iff : imagesFit S T F ≡ true → (keepsEquations S T F ≡ true) ↔ KeepsEquations (mappingOf S T F)
+  keeps-iff h = (keeps f, equations-kept)
+    where
+      f : Fits S T F
+      f = fits S T F nodes h
+
+      equations-kept : KeepsEquations (mappingOf S T F) → keepsEquations S T F ≡ true
+      equations-kept is =
+          all-in (λ (q : Equation). equal T (pathImage F (q .left)) (pathImage F (q .right))) (S .equations) (λ q m.
+          let r = schema-is S (s .fits) in
+          let n = q .left .start in
+          let a = q .left .edges in
+          let b = q .right .edges in
+          let q-is : IsListed S n a b = listed m in
+          let e : equal T (path (nodeImage F n) (image (edgeImage F) a)) (path (nodeImage F n) (image (edgeImage F) b)) ≡ true =
+          equal-iff T t (nodeImage F n) (image (edgeImage F) a) (image (edgeImage F) b) (carried f n a (r .left n a b q-is)) (carried f n b (r .right n a b q-is)) .1 (is n a b q-is)
+          in
+          subst (λ (c : ℕ). equal T (pathImage F (q .left)) (path (nodeImage F c) (image (edgeImage F) b)) ≡ true) (same-starts S (s .fits) q m) e)
+
+  pub mapping-is : imagesFit S T F ≡ true → keepsEquations S T F ≡ true → IsMapping (mappingOf S T F)
+  mapping-is h k =
+      let i = images-iff .0 h in
+      record {
+        S-is = schema-is S (s .fits);
+        T-is = schema-is T (t .fits);
+        node-in = i .node-in;
+        edge-path = i .edge-path;
+        edge-end = i .edge-end;
+        equation = keeps-iff h .0 k;
+        attribute-in = i .attribute-in;
+        attribute-home = i .attribute-home;
+        attribute-kind = i .attribute-kind;
+      }
 
   pub mapping-iff : ((imagesFit S T F ≡ true) × (keepsEquations S T F ≡ true)) ↔ IsMapping (mappingOf S T F)
-  mapping-iff = (λ h. mapping-is (h .0) (h .1), λ is. (images-fit is, equations-kept is))
+  mapping-iff = (λ h. mapping-is (h .0) (h .1), λ is. let h = images-iff .1 (images is) in (h, keeps-iff h .1 (is .equation)))
+    where
+      images : IsMapping (mappingOf S T F) → ImagesFit (mappingOf S T F)
+      images is = record {
+        node-in = is .node-in;
+        edge-path = is .edge-path;
+        edge-end = is .edge-end;
+        attribute-in = is .attribute-in;
+        attribute-home = is .attribute-home;
+        attribute-kind = is .attribute-kind;
+      }
 
 -- ---- of accepted sheets
 pub schema-well-formed : {S : Schema} → SchemaFacts S → WellFormed S

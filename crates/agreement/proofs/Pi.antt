@@ -5,22 +5,21 @@ use mathlib.Core.List.{List, [], _∷_, map, map-map, List·Memᴰ, List·Memᴰ
 use native.Mathlib.Omega.{arith}
 use lib.ListN.{length, getD, length-map}
 use Rattle.theory.specs.Schema.{Lex}
-use Rattle.theory.specs.Instance.{IsInstance}
+use Rattle.theory.specs.Instance as theory
+use Rattle.theory.specs.Instance.{Alike, IsInstance}
 use Rattle.theory.specs.Mapping.{Bijective}
-use Rattle.theory.specs.Pi.{IsComponent, IsFamily, Same, rowsAt, IsPi}
+use Rattle.theory.specs.Pi.{IsComponent, IsFamily, Same, rowsAt, IsPiBy, IsPi}
 use Rattle.theory.proofs.Schema.{path-edge}
 use Rattle.theory.proofs.Order.{mem-getD, mem-position, sorted-getD}
-use Rattle.theory.proofs.Family.{family-restrict, components-one}
+use Rattle.theory.proofs.Family.{family-restrict}
 use Rattle.theory.proofs.Pi.{pi-is, pi-one}
 use Rattle.meaning.specs.Lists.{position, sameList, sumOf}
 use Rattle.meaning.specs.Schema.{Schema, source, target, attributeAt}
 use Rattle.meaning.specs.Formats.{Mapping, Instance, maxRows}
-use Rattle.meaning.specs.Views.{schemaOf, attributeImage, mappingOf, count, link, column, value, instanceOf}
+use Rattle.meaning.specs.Views.{Shaped, schemaOf, attributeImage, mappingOf, count, link, column, value, instanceOf}
 use Rattle.meaning.specs.Pi.{Component, components, families, restrict, valueAt, pi}
 use Rattle.meaning.proofs.Lists.{sameList-iff, getD-map, position-in, position-passes}
-use Rattle.agreement.proofs.Valid.{ValidMapping, ValidInstance}
-use Rattle.meaning.proofs.Facts.{Shaped}
-use Rattle.agreement.proofs.Sheets.{alike-same}
+use Rattle.agreement.specs.Valid.{ValidMapping, ValidInstance}
 use Rattle.agreement.proofs.Joined.{map-upto-length, map-upto-getD}
 use Rattle.agreement.proofs.Components.{asPair, asPairs, components-are}
 use Rattle.agreement.proofs.Families.{familyOf, family-iff, rowsAt-familyOf, familyOf-rowsAt, rowsAt-listed, families-sorted, families-none}
@@ -147,8 +146,8 @@ module _ {S T : Schema} {F : Mapping} (v : ValidMapping S T F) (I : Instance) wh
         ∙ ap (λ (y : ℕ). value I y (piRow S T F I d n (attributeAt S y .node) [])) (attributeTo-image v paired a h)
 
     -- the tables are the theory's Pi
-    pub pi-is-pi : IsPi (mappingOf S T F) (instanceOf I) (instanceOf (pi S T F I)) (piComponents S T F) (piRow S T F I)
-    pi-is-pi = record {
+    pub pi-by : IsPiBy (mappingOf S T F) (instanceOf I) (instanceOf (pi S T F I)) (piComponents S T F) (piRow S T F I)
+    pi-by = record {
       components-are = λ d h. components-are v d h;
       family = λ d h n k. row-is d h n k .1;
       every = λ d h x x-is.
@@ -162,24 +161,16 @@ module _ {S T : Schema} {F : Mapping} (v : ValidMapping S T F) (I : Instance) wh
       value = value-is;
     }
 
-    -- and nothing else is
-    pub pi-only : (J : Instance) {components : ℕ → List (ℕ × List ℕ)} {row : ℕ → ℕ → ℕ → List ℕ → ℕ} → Shaped T J → IsPi (mappingOf S T F) (instanceOf I) (instanceOf J) components row → J ≡ pi S T F I
-    pi-only J {components = ks} {row = row} shaped J-is = alike-same T shaped pi-shaped (pi-one listed pi-is-pi (v .is) paired)
-      where
-        listed : IsPi (mappingOf S T F) (instanceOf I) (instanceOf J) (piComponents S T F) row
-        listed = record {
-          components-are = λ d h. components-are v d h;
-          family = J-is .family;
-          every = J-is .every;
-          ordered = λ d h n m i k. rw (components-one (components-are v d h) (J-is .components-are d h)) (J-is .ordered d h n m i k);
-          link-in = J-is .link-in;
-          link = J-is .link;
-          value = J-is .value;
-        }
+    pub pi-is-pi : IsPi (mappingOf S T F) (instanceOf I) (instanceOf (pi S T F I))
+    pi-is-pi = record { components = piComponents S T F; row = piRow S T F I; by = pi-by }
+
+    -- and no others are
+    pub pi-only : {P : theory.Instance ℕ} → IsPi (mappingOf S T F) (instanceOf I) P → Alike (schemaOf T) P (instanceOf (pi S T F I))
+    pi-only P-is = pi-one (v .is) paired P-is pi-is-pi
 
     -- Pi is an instance of T: links and values in range, and all path equations
     pi-instance : {Range : ℕ → ℕ → Type 0} → IsInstance Range (schemaOf S) (instanceOf I) → IsInstance Range (schemaOf T) (instanceOf (pi S T F I))
-    pi-instance I-is = pi-is (v .is) pi-is-pi paired I-is
+    pi-instance I-is = pi-is (v .is) pi-by paired I-is
 
     -- where it has at most 512 rows
     module _ (i : ValidInstance S I) (few : sumOf (pi S T F I .counts) ≤ maxRows) where

@@ -1,64 +1,72 @@
--- The tests of each kind of sheet, in order: 1 inside the leading counts, 3, 1 in the rest, 2, then upward from 4 (document 01, 'Why a sheet is sent back').
-use Prim.Native.Nat.{ℕ, zero, suc, _+_, _*_}
-use mathlib.Core.Path.{_≡_, refl, ap}
+-- Each kind of sheet is decided by its tests (specs/SheetTests.antt): the judge's refusal is that of the first test that fails.
+use Prim.Native.Nat.{ℕ, zero, suc, _+_, _*_, _<_}
+use mathlib.Core.Path.{_≡_, refl, sym, ap, _∙_, subst}
 use mathlib.Core.Bool.{Bool, true, false, cond, not}
-use mathlib.Core.List.{List, [], _∷_, map}
-use mathlib.Core.Option.{Option, none, some}
+use mathlib.Core.List.{List, [], _∷_}
+use mathlib.Core.Logic.{_↔_}
 use native.Mathlib.Omega.{arith}
 use lib.ListN.{length, getD}
 use lib.Dec.{leb}
+use borrow.Author.Tests.{leb-false, lt-leb}
 use Rattle.bits.specs.Field as bits
 use Rattle.meaning.specs.Lists.{sumOf}
-use Rattle.meaning.specs.Schema.{Path, Graph, Schema, isPath, hasLoop}
-use Rattle.meaning.specs.Sheet.{Read, fails, reads, Reader, after, _>>=_, give, times, inTurn, field, ensure, finish, Judged, sound, judged}
-use Rattle.meaning.specs.Formats.{Counts, Mapping, Instance, maxRows, countsInLimits, readEdges, readPath, readCounts, readEdge, readAttribute, readEquation, readLists, readMapping, readLinks, readValues, readTables, kinds}
+use Rattle.meaning.specs.Schema.{Graph, Schema, isPath, allPaths, hasLoop}
+use Rattle.meaning.specs.Sheet.{Read, fails, reads, Reader, after, _>>=_, give, times, inTurn, field, ensure, finish, Judged, faulty, sound, judged}
+use Rattle.meaning.specs.Formats.{Counts, Mapping, Instance, maxPaths, maxRows, countsInLimits, readEdges, readPath, readCounts, readEdge, readAttribute, readEquation, readLists, readSchema, readMapping, readLinks, readValues, readTables, kinds}
 use Rattle.meaning.specs.Judge as judge
-use Rattle.meaning.specs.Judge.{isWellFormed, hasFewPaths, judgeSchema, judgePath, judgeMapping, judgeInstance, imagesFit, keepsEquations, linksInRange, valuesInRange, obeysEquations}
+use Rattle.meaning.specs.Judge.{isWellFormed, hasFewPaths, testSchema, judgeSchema, judgePath, judgeMapping, judgeInstance, imagesFit, keepsEquations, linksInRange, valuesInRange, obeysEquations}
 use Rattle.meaning.specs.Matching.{isMatching, judgeMatching}
 use Rattle.meaning.specs.Calls.{refused, at}
-use Rattle.agreement.proofs.Tests.{Refusal, Tests, done, test, Decides, decides-as, holds}
+use Rattle.meaning.proofs.Lists.{no-bool}
+use Rattle.meaning.proofs.Readers.{sound-same}
+use Rattle.agreement.specs.Paths.{Crowded}
+use Rattle.agreement.specs.Tests.{Refusal, Tests, done, test, Decides, holds}
+use Rattle.agreement.proofs.Tests.{decides-as}
+use Rattle.agreement.specs.SheetTests.{matchingTests, instanceTests, readLinksValues, mappingTests, readImages, schemaTests, pathTests, whatRead}
 
--- ---- the only refusal of m is 1 (cut)
-record Cuts {A : Type 0} (m : Reader A) : Type 0 where
-  so : (s : List ℕ) (p : ℕ) {n : ℕ} → m s p ≡ fails n → n ≡ 1
+-- ---- which refusals a reader can give
+
+-- m refuses with numbers in P only
+record RefusesIn (P : ℕ → Type 0) {A : Type 0} (m : Reader A) : Type 0 where
+  so : (s : List ℕ) (p : ℕ) {n : ℕ} → m s p ≡ fails n → P n
+
+-- the only refusal of m is 1 (cut)
+abbrev Cuts : {A : Type 0} → Reader A → Type 0
+Cuts m = RefusesIn (λ n. n ≡ 1) m
 
 fails-not-reads : {A : Type 0} {n : ℕ} {a : A} {q : ℕ} → _≡_ {A = Read A} (reads a q) (fails n) → ⊥
 fails-not-reads e = let w : _≡_ {A = ℕ} 0 1 = cc in omega arith
 
-cuts-give : {A : Type 0} {a : A} → Cuts (give a)
-cuts-give = record { so = λ s p e. absurd (fails-not-reads e) }
+fails-same : {A : Type 0} {n m : ℕ} → _≡_ {A = Read A} (fails n) (fails m) → n ≡ m
+fails-same e = cc
 
 cuts-field : (w : ℕ) → Cuts (field w)
 cuts-field w = record { so = λ s p e. go (leb (p + w) (8 * length s)) (bits.field s p w) (p + w) e }
   where
     go : (t : Bool) (v q : ℕ) {n : ℕ} → cond t (reads v q) (fails 1) ≡ fails n → n ≡ 1
     go true v q e = absurd (fails-not-reads e)
-    go false v q e = cc
+    go false v q e = sym (fails-same e)
 
-module _ {A B : Type 0} {m : Reader A} {k : A → Reader B} where
-  cuts-bind : Cuts m → ((a : A) → Cuts (k a)) → Cuts (m >>= k)
-  cuts-bind M K = record { so = λ s p e. go s p (m s p) refl e }
+module _ {P : ℕ → Type 0} where
+  cuts-give : {A : Type 0} {a : A} → RefusesIn P (give a)
+  cuts-give = record { so = λ s p e. absurd (fails-not-reads e) }
+
+  cuts-bind : {A B : Type 0} {m : Reader A} {k : A → Reader B} → RefusesIn P m → ((a : A) → RefusesIn P (k a)) → RefusesIn P (m >>= k)
+  cuts-bind {A} {m = m} {k = k} M K = record { so = λ s p e. go s p (m s p) refl e }
     where
-      go : (s : List ℕ) (p : ℕ) (r : Read A) → m s p ≡ r → {n : ℕ} → after s r k ≡ fails n → n ≡ 1
-      go s p (fails j) d {n} e = let h = M .so s p d in cc
+      go : (s : List ℕ) (p : ℕ) (r : Read A) → m s p ≡ r → {n : ℕ} → after s r k ≡ fails n → P n
+      go s p (fails j) d e = subst P (fails-same e) (M .so s p d)
       go s p (reads a q) d e = K a .so s q e
 
-module _ {A : Type 0} where
-  cuts-times : {m : Reader A} (n : ℕ) → Cuts m → Cuts (times n m)
+  cuts-times : {A : Type 0} {m : Reader A} (n : ℕ) → RefusesIn P m → RefusesIn P (times n m)
   cuts-times zero M = cuts-give
   cuts-times (suc n) M = cuts-bind M (λ x. cuts-bind (cuts-times n M) (λ xs. cuts-give))
 
-module _ {A B : Type 0} where
-  cuts-inTurn : {m : A → Reader B} (xs : List A) → ((x : A) → Cuts (m x)) → Cuts (inTurn m xs)
+  cuts-inTurn : {A B : Type 0} {m : A → Reader B} (xs : List A) → ((x : A) → RefusesIn P (m x)) → RefusesIn P (inTurn m xs)
   cuts-inTurn [] M = cuts-give
   cuts-inTurn (x ∷ xs) M = cuts-bind (M x) (λ y. cuts-bind (cuts-inTurn xs M) (λ ys. cuts-give))
 
 -- ---- one test of a sheet
-
--- what was read, and the position behind it
-abbrev pub whatRead : {A : Type 0} → Read A → Option (A × ℕ)
-whatRead (fails n) = none
-whatRead (reads a q) = some (a, q)
 
 module _ {A : Type 0} {rs : List Refusal} (place : ℕ) where
   -- a part of the sheet is read
@@ -84,21 +92,7 @@ module _ {A : Type 0} {rs : List Refusal} (place : ℕ) where
 decides-sound : {A : Type 0} (place : ℕ) (a : A) → Decides (done a) (at place (sound a))
 decides-sound place a = record { so = refl }
 
--- the numbers of a sheet's tests, at its place
-abbrev pub placed : ℕ → List ℕ → List Refusal
-placed place ns = map (λ n. (n, place)) ns
-
 -- ---- path
-abbrev pub pathNumbers : List ℕ
-pathNumbers = 1 ∷ 2 ∷ 4 ∷ []
-
-abbrev pub pathTests : (place : ℕ) → Graph → List ℕ → Tests Path (placed place pathNumbers)
-pathTests place G s =
-    test (1, place) (whatRead (readPath s 0)) (λ p.
-    test (2, place) (holds (bits.tailOk s (p .1))) (λ _.
-    test (4, place) (holds (isPath G (p .0))) (λ _.
-    done (p .0))))
-
 cuts-edges : Cuts readEdges
 cuts-edges = cuts-bind (cuts-field 4) (λ k. cuts-times k (cuts-field 5))
 
@@ -113,20 +107,6 @@ path-decided place G s =
     decides-sound place p)))
 
 -- ---- schema
-abbrev pub schemaNumbers : List ℕ
-schemaNumbers = 1 ∷ 3 ∷ 1 ∷ 2 ∷ 4 ∷ 5 ∷ 6 ∷ []
-
-abbrev pub schemaTests : (place : ℕ) → List ℕ → Tests Schema (placed place schemaNumbers)
-schemaTests place s =
-    test (1, place) (whatRead (readCounts s 0)) (λ c.
-    test (3, place) (holds (countsInLimits (c .0))) (λ _.
-    test (1, place) (whatRead (readLists (c .0) s (c .1))) (λ S.
-    test (2, place) (holds (bits.tailOk s (S .1))) (λ _.
-    test (4, place) (holds (isWellFormed (S .0))) (λ _.
-    test (5, place) (holds (not (hasLoop (S .0 .graph)))) (λ _.
-    test (6, place) (holds (hasFewPaths (S .0 .graph))) (λ _.
-    done (S .0))))))))
-
 cuts-counts : Cuts readCounts
 cuts-counts = cuts-bind (cuts-field 5) (λ n. cuts-bind (cuts-field 6) (λ e. cuts-bind (cuts-field 5) (λ a. cuts-bind (cuts-field 6) (λ q. cuts-give))))
 
@@ -157,6 +137,60 @@ schema-decided place s =
     decides-judge place 6 (hasFewPaths (S .graph)) _ (
     decides-sound place S)))))))
 
+-- ---- refusal 6: reading refuses with less
+
+low-cuts : {A : Type 0} {m : Reader A} → Cuts m → RefusesIn (λ n. n < 4) m
+low-cuts M = record { so = λ s p e. let h = M .so s p e in omega arith }
+
+low-ensure : (b : Bool) (n : ℕ) → n < 4 → RefusesIn (λ n. n < 4) (ensure b n)
+low-ensure true n h = cuts-give
+low-ensure false n h = record { so = λ s p e. let k = fails-same e in omega arith }
+
+low-finish : RefusesIn (λ n. n < 4) finish
+low-finish = record { so = λ s p e. low-ensure (bits.tailOk s p) 2 (omega arith) .so s p e }
+
+low-schema : RefusesIn (λ n. n < 4) readSchema
+low-schema =
+    cuts-bind (low-cuts cuts-counts) (λ c.
+    cuts-bind (low-ensure (countsInLimits c) 3 (omega arith)) (λ _.
+    cuts-bind (low-cuts (cuts-lists c)) (λ S.
+    cuts-bind low-finish (λ _.
+    cuts-give))))
+
+module _ {A : Type 0} where
+  faulty-same : {n m : ℕ} → _≡_ {A = Judged A} (faulty n) (faulty m) → n ≡ m
+  faulty-same e = cc
+
+  sound-not-faulty : {n : ℕ} {a : A} → _≡_ {A = Judged A} (sound a) (faulty n) → ⊥
+  sound-not-faulty e = let w : _≡_ {A = ℕ} 0 1 = cc in omega arith
+
+-- by the three tests
+abbrev tested : Schema → Bool → Bool → Bool → Judged Schema
+tested S a b c = judge._>>=_ (judge.ensure a 4) (λ _. judge._>>=_ (judge.ensure (not b) 5) (λ _. judge._>>=_ (judge.ensure c 6) (λ _. sound S)))
+
+tested-iff : (S : Schema) (a b c : Bool) → (tested S a b c ≡ faulty 6) ↔ ((a ≡ true) × (b ≡ false) × (c ≡ false))
+tested-iff S false b c = (λ e. let k = faulty-same e in absurd (omega arith), λ h. absurd (no-bool (sym (h .0))))
+tested-iff S true true c = (λ e. let k = faulty-same e in absurd (omega arith), λ h. absurd (no-bool (h .1)))
+tested-iff S true false true = (λ e. absurd (sound-not-faulty e), λ h. absurd (no-bool (h .2)))
+tested-iff S true false false = (λ e. (refl, refl, refl), λ h. refl)
+
+-- 6 is given exactly where the sheet reads as a well-formed schema without a loop that has more than 256 paths
+pub crowd-iff : (s : List ℕ) → (judgeSchema s ≡ faulty 6) ↔ ((S : Schema) × Crowded s S)
+crowd-iff s = go (readSchema s 0) refl
+  where
+    go : (r : Read Schema) → readSchema s 0 ≡ r → (judge._>>=_ (judged r) testSchema ≡ faulty 6) ↔ ((S : Schema) × Crowded s S)
+    go (fails n) e = (
+      λ k. let h = low-schema .so s 0 e in let l = faulty-same k in absurd (omega arith),
+      λ x. absurd (sound-not-faulty (sym (x .1 .reads) ∙ ap judged e)),
+    )
+    go (reads S q) e = (
+      λ k. let t = tested-iff S (isWellFormed S) (hasLoop (S .graph)) (hasFewPaths (S .graph)) .0 k in
+          (S, record { reads = ap judged e; formed = record { fits = t .0; acyclic = t .1 }; crowd = leb-false (length (allPaths (S .graph))) maxPaths (t .2) }),
+      λ x. subst (λ (R : Schema). testSchema R ≡ faulty 6) (sound-same (sym (x .1 .reads) ∙ ap judged e))
+          (tested-iff (x .0) (isWellFormed (x .0)) (hasLoop (x .0 .graph)) (hasFewPaths (x .0 .graph)) .1
+          (x .1 .formed .fits, x .1 .formed .acyclic, lt-leb (length (allPaths (x .0 .graph))) maxPaths (x .1 .crowd))),
+    )
+
 -- ---- readers in a row, regrouped
 module _ {A B C : Type 0} (s : List ℕ) where
   after-after : (r : Read A) (f : A → Reader B) (k : B → Reader C) (g : A → Reader C) → ((a : A) (p : ℕ) → after s (f a s p) k ≡ g a s p) → after s (after s r f) k ≡ after s r g
@@ -164,25 +198,6 @@ module _ {A B C : Type 0} (s : List ℕ) where
   after-after (reads a p) f k g h = h a p
 
 -- ---- mapping
-
-abbrev pub mappingNumbers : List ℕ
-mappingNumbers = 1 ∷ 2 ∷ 7 ∷ 8 ∷ []
-
--- all images, before the sheet's end
-abbrev pub readImages : Schema → Reader Mapping
-readImages S = do
-  ns ← times (S .graph .nodes) (field 4)
-  es ← times (length (S .graph .edges)) readEdges
-  as′ ← times (length (S .attributes)) (field 4)
-  give (record { nodes = ns; edges = es; attributes = as′ })
-
-abbrev pub mappingTests : (place : ℕ) → Schema → Schema → List ℕ → Tests Mapping (placed place mappingNumbers)
-mappingTests place S T s =
-    test (1, place) (whatRead (readImages S s 0)) (λ F.
-    test (2, place) (holds (bits.tailOk s (F .1))) (λ _.
-    test (7, place) (holds (imagesFit S T (F .0))) (λ _.
-    test (8, place) (holds (keepsEquations S T (F .0))) (λ _.
-    done (F .0)))))
 
 cuts-images : (S : Schema) → Cuts (readImages S)
 cuts-images S =
@@ -216,27 +231,6 @@ mapping-decided place S T s =
     tests F = judge._>>=_ (judge.ensure (imagesFit S T F) 7) (λ _. judge._>>=_ (judge.ensure (keepsEquations S T F) 8) (λ _. sound F))
 
 -- ---- instance
-abbrev pub instanceNumbers : List ℕ
-instanceNumbers = 1 ∷ 3 ∷ 1 ∷ 2 ∷ 9 ∷ 10 ∷ 11 ∷ []
-
--- all links and values, before the sheet's end
-abbrev pub readLinksValues : Schema → List ℕ → Reader Instance
-readLinksValues S counts = do
-  ls ← readLinks S counts
-  vs ← readValues S counts
-  give (record { counts = counts; links = ls; values = vs })
-
-abbrev pub instanceTests : (place : ℕ) → Schema → List ℕ → Tests Instance (placed place instanceNumbers)
-instanceTests place S s =
-    test (1, place) (whatRead (times (S .graph .nodes) (field 10) s 0)) (λ c.
-    test (3, place) (holds (leb (sumOf (c .0)) maxRows)) (λ _.
-    test (1, place) (whatRead (readLinksValues S (c .0) s (c .1))) (λ I.
-    test (2, place) (holds (bits.tailOk s (I .1))) (λ _.
-    test (9, place) (holds (linksInRange S (I .0))) (λ _.
-    test (10, place) (holds (valuesInRange kinds S (I .0))) (λ _.
-    test (11, place) (holds (obeysEquations S (I .0))) (λ _.
-    done (I .0))))))))
-
 cuts-linksValues : (S : Schema) (counts : List ℕ) → Cuts (readLinksValues S counts)
 cuts-linksValues S counts =
     cuts-bind (cuts-inTurn (S .graph .edges) (λ e. cuts-times (getD counts (e .source) 0) (cuts-field 9))) (λ ls.
@@ -266,16 +260,6 @@ instance-decided place S s =
         sound I)))
 
 -- ---- matching
-abbrev pub matchingNumbers : List ℕ
-matchingNumbers = 1 ∷ 2 ∷ 17 ∷ []
-
-abbrev pub matchingTests : (place : ℕ) → Schema → Instance → Instance → List ℕ → Tests (List ℕ) (placed place matchingNumbers)
-matchingTests place S A B s =
-    test (1, place) (whatRead (times (sumOf (A .counts)) (field 9) s 0)) (λ l.
-    test (2, place) (holds (bits.tailOk s (l .1))) (λ _.
-    test (17, place) (holds (isMatching S A B (l .0))) (λ _.
-    done (l .0))))
-
 pub matching-decided : (place : ℕ) (S : Schema) (A B : Instance) (s : List ℕ) → Decides (matchingTests place S A B s) (at place (judgeMatching S A B s))
 matching-decided place S A B s =
     decides-read place (cuts-times (sumOf (A .counts)) (cuts-field 9)) s 0 _ _ (λ l q.

@@ -14,13 +14,11 @@ use Rattle.theory.proofs.Sigma.{sigma-is, sigma-rows}
 use Rattle.meaning.specs.Lists.{concatMap, sumOf}
 use Rattle.meaning.specs.Schema.{Schema, source, target, attributeAt, end}
 use Rattle.meaning.specs.Formats.{Mapping, Instance, maxRows, kinds}
-use Rattle.meaning.specs.Views.{schemaOf, nodeImage, mappingOf, count, link, column, value, follow, instanceOf}
+use Rattle.meaning.specs.Views.{Shaped, schemaOf, nodeImage, mappingOf, count, link, column, value, follow, instanceOf}
 use Rattle.meaning.specs.Sigma.{fibre, rowsIn, firstRow, lift, linksAlong, attributeOver, sigma}
 use Rattle.meaning.specs.Calls.{accepted, ensureFits}
-use Rattle.meaning.proofs.Facts.{Shaped}
-use Rattle.agreement.proofs.Instances.{InRange}
+use Rattle.agreement.specs.Valid.{InRange, ValidMapping, ValidInstance}
 use Rattle.agreement.proofs.Tables.{rows-sum}
-use Rattle.agreement.proofs.Valid.{ValidMapping, ValidInstance}
 use Rattle.agreement.proofs.Joined.{map-upto-length, map-upto-getD, fibre-length, fibre-at, rowsIn-share, place-is}
 use Rattle.agreement.proofs.Evenness.{lift-is, attributeOver-is}
 

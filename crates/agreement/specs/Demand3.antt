@@ -1,4 +1,4 @@
--- Demand 3, of the meanings of the four calls, bytes in and bytes out: its provisos (`Provided`) and its clauses (`Demand3`).
+-- Demand 3, of what the two checkers and the two turnings answer, bytes in and bytes out: its provisos (`Provided`) and its clauses (`Clauses`).
 -- Even, Sigma, Delta and matchings are the theory's; what a sheet says and what a call yields are document 01's.
 use mathlib.Core.Path.{_≡_}
 use mathlib.Core.List.{List, _++_}
@@ -36,6 +36,29 @@ pub record Writes (tray r : List ℕ) (out : Lent) : Type 0 where
 pub record RefusesTray (tray : List ℕ) (out : Lent) : Type 0 where
   pub refuses : Refuses (out .answer)
   pub unchanged : out .tray ≡ tray
+
+abbrev pub Checker : Type 0
+Checker = List ℕ → Outcome (Unit {0})
+
+-- of a tray and a list
+abbrev pub Turning : Type 0
+Turning = List ℕ → List ℕ → Lent
+
+-- the answers of the four calls to a list, the other sheets being lent
+pub record Answers : Type 0 where
+  pub check-pushed : Checker
+  pub check-raw : Checker
+  pub to-raw : Turning
+  pub to-pushed : Turning
+
+-- those of their meanings
+abbrev pub meaningAnswers : List ℕ → List ℕ → List ℕ → List ℕ → List ℕ → Answers
+meaningAnswers s t f i j = record {
+  check-pushed = checkPushed s t f i j;
+  check-raw = checkRaw s t f i j;
+  to-raw = λ tray k. inTray tray (pushedToRaw s t f i j k);
+  to-pushed = λ tray k. inTray tray (rawToPushed s t f i j k);
+}
 
 -- ---- the provisos
 
@@ -83,11 +106,8 @@ Holds side tray = bytesFor (9 * theoryInstance.rows (side .schema) (side .A)) �
 
 -- ---- the clauses, of a turning from `here` to `there`, which is lent a tray and a list
 
-abbrev pub Turning : Type 0
-Turning = List ℕ → List ℕ → Lent
-
 -- a checker accepts a list exactly when it is a matching of its side
-abbrev pub Checks : Side → (List ℕ → Outcome (Unit {0})) → Type 0
+abbrev pub Checks : Side → Checker → Type 0
 Checks side check = (k : List ℕ) → Bytes k → Accepts (check k) ↔ MatchingOf side k
 
 -- a turning takes exactly the matchings of the side it starts from
@@ -139,36 +159,31 @@ module _ {s t f i j : List ℕ} (x : Provided s t f i j) where
     position = λ c y. sum (instanceOf (x .run) .count) c + y;
   }
 
-  abbrev pub toRaw : Turning
-  toRaw tray k = inTray tray (pushedToRaw s t f i j k)
-
-  abbrev pub toPushed : Turning
-  toPushed tray k = inTray tray (rawToPushed s t f i j k)
-
-  pub record Demand3 : Type 0 where
+  -- of the answers a to the sheets s, t, f, i and j
+  pub record Clauses (a : Answers) : Type 0 where
     -- each checker accepts a list exactly when it is a matching of its side
-    pub pushed-checked : Checks pushedSide (checkPushed s t f i j)
-    pub raw-checked : Checks rawSide (checkRaw s t f i j)
+    pub pushed-checked : Checks pushedSide (a .check-pushed)
+    pub raw-checked : Checks rawSide (a .check-raw)
     -- each turning takes exactly the matchings of the side it starts from
-    pub pushed-taken : Takes pushedSide rawSide toRaw
-    pub raw-taken : Takes rawSide pushedSide toPushed
+    pub pushed-taken : Takes pushedSide rawSide (a .to-raw)
+    pub raw-taken : Takes rawSide pushedSide (a .to-pushed)
     -- and turns each into one matching of the other side
-    pub pushed-turned : Turns pushedSide rawSide toRaw
-    pub raw-turned : Turns rawSide pushedSide toPushed
+    pub pushed-turned : Turns pushedSide rawSide (a .to-raw)
+    pub raw-turned : Turns rawSide pushedSide (a .to-pushed)
     -- each matching there comes from exactly one here
-    pub raw-comes : ComesFromOne pushedSide rawSide toRaw
-    pub pushed-comes : ComesFromOne rawSide pushedSide toPushed
+    pub raw-comes : ComesFromOne pushedSide rawSide (a .to-raw)
+    pub pushed-comes : ComesFromOne rawSide pushedSide (a .to-pushed)
     -- turning the result back gives the first list again, byte for byte
-    pub pushed-back : TurnsBack pushedSide rawSide toRaw toPushed
-    pub raw-back : TurnsBack rawSide pushedSide toPushed toRaw
+    pub pushed-back : TurnsBack pushedSide rawSide (a .to-raw) (a .to-pushed)
+    pub raw-back : TurnsBack rawSide pushedSide (a .to-pushed) (a .to-raw)
     -- and each raw row meets the same book row on both sides
-    pub pushed-meets : MeetsSame (schemaOf (x .S)) (instanceOf (x .run)) pushedSide rawSide toRaw
-    pub raw-meets : MeetsSame (schemaOf (x .S)) (instanceOf (x .run)) rawSide pushedSide toPushed
+    pub pushed-meets : MeetsSame (schemaOf (x .S)) (instanceOf (x .run)) pushedSide rawSide (a .to-raw)
+    pub raw-meets : MeetsSame (schemaOf (x .S)) (instanceOf (x .run)) rawSide pushedSide (a .to-pushed)
 
--- ---- where a proviso fails, each of the four calls refuses, whatever list and tray are lent
+-- ---- where a proviso fails, each of the four calls refuses, whatever list and tray are lent, and no turning changes its tray
 
-pub record AllRefuse (s t f i j : List ℕ) : Type 0 where
-  pub pushed-refused : (k : List ℕ) → Refuses (checkPushed s t f i j k)
-  pub raw-refused : (k : List ℕ) → Refuses (checkRaw s t f i j k)
-  pub to-raw-refused : (tray k : List ℕ) → RefusesTray tray (inTray tray (pushedToRaw s t f i j k))
-  pub to-pushed-refused : (tray k : List ℕ) → RefusesTray tray (inTray tray (rawToPushed s t f i j k))
+pub record AllRefuse (a : Answers) : Type 0 where
+  pub pushed-refused : (k : List ℕ) → Refuses (a .check-pushed k)
+  pub raw-refused : (k : List ℕ) → Refuses (a .check-raw k)
+  pub to-raw-refused : (tray k : List ℕ) → RefusesTray tray (a .to-raw tray k)
+  pub to-pushed-refused : (tray k : List ℕ) → RefusesTray tray (a .to-pushed tray k)

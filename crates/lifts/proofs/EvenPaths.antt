@@ -10,13 +10,14 @@ use lib.Dec.{eqb}
 use Rattle.meaning.specs.Lists.{upto, all}
 use Rattle.meaning.specs.Schema as meaning
 use Rattle.meaning.specs.Schema.{Path, pathsFrom}
-use Rattle.meaning.specs.PathEquality.{classOf, classes, equal}
+use Rattle.meaning.specs.PathEquality.{classOf, equal}
 use Rattle.meaning.specs.Formats as formats
 use Rattle.meaning.specs.Views.{nodeImage, pathImage}
 use Rattle.meaning.specs.Evenness.{lifts, oneClass}
 use Rattle.meaning.proofs.Tabulate.{and-both}
 use Rattle.meaning.proofs.Lists.{no-bool, and-intro, both-ways, filter-in, filter-of, all-in, all-of, all-upto, upto-all}
-use Rattle.agreement.proofs.Paths.{pathAt, pathsFrom-each}
+use Rattle.agreement.specs.Paths.{pathAt}
+use Rattle.agreement.proofs.Paths.{pathsFrom-each}
 use Rattle.agreement.proofs.Evenness.{oneClass-some, oneClass-same, same-oneClass}
 use Rattle.schema.specs.declared.Schema.{Schema}
 use Rattle.schema.specs.Decoded.{schemaOf}

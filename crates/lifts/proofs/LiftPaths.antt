@@ -15,7 +15,8 @@ use Rattle.meaning.specs.Views.{nodeImage, pathImage}
 use Rattle.meaning.specs.Evenness.{lifts}
 use Rattle.meaning.specs.Sigma.{lift}
 use Rattle.meaning.proofs.Lists.{filter-of, filter-place, of-upto}
-use Rattle.agreement.proofs.Paths.{pathCount, numberOf, pathAt, number-at}
+use Rattle.agreement.specs.Paths.{pathCount, numberOf, pathAt}
+use Rattle.agreement.proofs.Paths.{number-at}
 use Rattle.schema.specs.declared.Schema.{Schema}
 use Rattle.schema.specs.Decoded.{graphOf, schemaOf}
 use Rattle.schema.proofs.GraphEdges.{edges-count, source-at}

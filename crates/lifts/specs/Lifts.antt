@@ -6,7 +6,7 @@ use mathlib.Core.List.{List}
 use lib.ListN.{getD}
 use lib.Dec.{eqb}
 use Rattle.meaning.specs.Sigma.{lift}
-use Rattle.agreement.proofs.Paths.{numberOf, pathAt}
+use Rattle.agreement.specs.Paths.{numberOf, pathAt}
 use Rattle.schema.specs.declared.Schema.{Schema}
 use Rattle.schema.specs.Decoded.{graphOf, schemaOf}
 use Rattle.paths.specs.declared.Paths.{Paths}

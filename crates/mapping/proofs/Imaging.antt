@@ -15,7 +15,8 @@ use Rattle.meaning.specs.Judge.{imagesFit}
 use Rattle.meaning.specs.Views.{schemaOf, nodeImage, edgeImage, pathImage}
 use Rattle.agreement.proofs.Mappings as agreement
 use Rattle.agreement.proofs.Mappings.{Fits, carries}
-use Rattle.agreement.proofs.Paths.{WellFormed, allPaths-each, pathCount, numberOf, pathAt, number-in, number-path, number-at, pathAt-in}
+use Rattle.agreement.specs.Paths.{WellFormed, pathCount, numberOf, pathAt}
+use Rattle.agreement.proofs.Paths.{allPaths-each, number-in, number-path, number-at, pathAt-in}
 use Rattle.schema.specs.declared.Schema as declared
 use Rattle.schema.specs.Decoded as schemas
 use Rattle.paths.specs.PathNumbers.{parentOf, lastOf, endOf}

@@ -11,7 +11,7 @@ use borrow.Author.Tests.{ltb-true, ltb-false}
 use Rattle.theory.specs.Numbering.{tabulate}
 use Rattle.meaning.specs.Schema.{Graph, Path, hasLoop}
 use Rattle.meaning.proofs.Tabulate.{tabulate-same}
-use Rattle.agreement.proofs.Paths.{pathCount, pathAt}
+use Rattle.agreement.specs.Paths.{pathCount, pathAt}
 use Rattle.paths.specs.declared.Paths.{Paths}
 use Rattle.paths.specs.Table.{IsTable}
 use Rattle.paths.specs.PathNumbers.{lengthOf, parentOf, lastOf}

@@ -12,7 +12,8 @@ use Rattle.meaning.specs.PathEquality.{classOf, equal}
 use Rattle.meaning.specs.Judge.{keepsEquations}
 use Rattle.meaning.specs.Views.{pathImage}
 use Rattle.meaning.proofs.Tabulate.{all-same}
-use Rattle.agreement.proofs.Paths.{pathCount, numberOf, pathAt, number-in, number-path, path-iff, allPaths-each}
+use Rattle.agreement.specs.Paths.{pathCount, numberOf, pathAt}
+use Rattle.agreement.proofs.Paths.{number-in, number-path, path-iff, allPaths-each}
 use Rattle.schema.specs.declared.Schema.{Schema}
 use Rattle.schema.specs.declared.Path as declared
 use Rattle.schema.specs.Decoded.{graphOf, pathOf, equationOf, noPath, schemaOf}

@@ -9,7 +9,7 @@ use Rattle.meaning.specs.Formats as formats
 use Rattle.meaning.specs.Views.{pathImage}
 use Rattle.meaning.specs.Sheet.{Judged}
 use Rattle.meaning.specs.Judge.{imagesFit, keepsEquations}
-use Rattle.agreement.proofs.Paths.{numberOf, pathAt}
+use Rattle.agreement.specs.Paths.{numberOf, pathAt}
 use Rattle.schema.specs.declared.Schema.{Schema}
 use Rattle.schema.specs.Decoded.{schemaOf}
 use Rattle.schema.specs.Judged as schemas

@@ -9,7 +9,7 @@ ghost use mathlib.Core.Path.{_≡_};
 ghost use Prim.Native.Nat.{_<_, _≤_};
 ghost use lib.Dec.{eqb};
 ghost use Rattle.meaning.specs.Lists.{all};
-ghost use Rattle.agreement.proofs.Paths.{numberOf};
+ghost use Rattle.agreement.specs.Paths.{numberOf};
 ghost use Rattle.schema.specs.Decoded.{graphOf, pathOf, schemaOf};
 ghost use Rattle.schema.specs.Judged.{Sound};
 ghost use Rattle.paths.specs.Table.{Filled, IsTable};

@@ -11,7 +11,7 @@ use Rattle.meaning.specs.Lists.{sumOf}
 use Rattle.meaning.specs.Schema.{Equation, Schema, source, target, attributeAt, hasLoop}
 use Rattle.meaning.specs.Sheet.{sound, onSheet}
 use Rattle.meaning.specs.Formats.{Counts, Mapping, Instance, maxNodes, maxEdges, maxAttributes, maxEquations, maxRows, countsInLimits, readEdges, readPath, readCounts, readEdge, readAttribute, readEquation, readLists, readSchema, readMapping, readInstance, readMatching, kinds}
-use Rattle.meaning.specs.Views.{count, link, column, value, edgeImage}
+use Rattle.meaning.specs.Views.{Shaped, count, link, value, edgeImage}
 use Rattle.meaning.specs.Judge.{isWellFormed, hasFewPaths, testSchema, judgeSchema, judgeMapping, judgeInstance, imagesFit, keepsEquations, linksInRange, valuesInRange, obeysEquations}
 use Rattle.meaning.specs.Matching.{isMatching, judgeMatching}
 use Rattle.meaning.proofs.Tabulate.{and-both}
@@ -148,6 +148,10 @@ gives-mapping S =
     gives-bind gives-finish (λ _ _.
     gives-give (record { nodes = n .0; edges = e .0; attributes = a .0; short = e .1 })))))
 
+-- of a sheet that reads as a mapping
+pub mapping-sized : (S : Schema) (s : List ℕ) {F : Mapping} → onSheet (readMapping S) s ≡ sound F → length (F .nodes) ≡ S .graph .nodes
+mapping-sized S s e = given (gives-mapping S) s e .nodes
+
 pub mapping-facts : (S T : Schema) (s : List ℕ) {F : Mapping} → judgeMapping S T s ≡ sound F → MappingFacts S T F
 mapping-facts S T s e =
     let r = bind-sound (onSheet (readMapping S) s) _ e in
@@ -164,14 +168,6 @@ mapping-facts S T s e =
     })
 
 -- ---- instances
-
--- each list is as long as the schema and the counts say
-pub record Shaped (S : Schema) (I : Instance) : Type 0 where
-  pub tables : length (I .counts) ≡ S .graph .nodes
-  pub edges : length (I .links) ≡ length (S .graph .edges)
-  pub attributes : length (I .values) ≡ length (S .attributes)
-  pub links : (e : ℕ) → e < length (S .graph .edges) → length (getD (I .links) e []) ≡ count I (source (S .graph) e)
-  pub values : (a : ℕ) → a < length (S .attributes) → length (column I a) ≡ count I (attributeAt S a .node)
 
 -- each number fits its field
 pub record FitsFields (I : Instance) : Type 0 where
@@ -223,6 +219,10 @@ module _ (S : Schema) (s : List ℕ) where
       let v = ensure-sound (valuesInRange kinds S (r .0)) 10 _ (l .1) in
       let q = ensure-sound (obeysEquations S (r .0)) 11 _ (v .1) in
       rw (← sound-same (q .1)) (r .1, l .0, v .0, q .0)
+
+  -- of a sheet that reads as an instance
+  pub instance-shaped : {I : Instance} → onSheet (readInstance S) s ≡ sound I → Shaped S I
+  instance-shaped e = given (gives-instance S) s e .shaped
 
   pub instance-read : {I : Instance} → judgeInstance S s ≡ sound I → onSheet (readInstance S) s ≡ sound I
   instance-read e = instance-passed e .0

@@ -147,6 +147,13 @@ judgePushed x k = at 6 (judgeMatching (x .m .T) (x .pushed) (x .book) k)
 abbrev pub judgeRaw : Sides → List ℕ → Outcome (List ℕ)
 judgeRaw x k = at 6 (judgeMatching (x .m .S) (x .run) (x .pulled) k)
 
+-- the sheet of a turned list: keeping the book row
+abbrev pub rawSheet : Sides → List ℕ → List ℕ
+rawSheet x l = matchingSheet (toRaw (mappingOf (x .m .S) (x .m .T) (x .m .F)) (instanceOf (x .run)) (instanceOf (x .pushed)) l)
+
+abbrev pub pushedSheet : Sides → List ℕ → List ℕ
+pushedSheet x l = matchingSheet (toPushed (mappingOf (x .m .S) (x .m .T) (x .m .F)) (instanceOf (x .run)) (instanceOf (x .pushed)) l)
+
 abbrev pub checkPushed : List ℕ → List ℕ → List ℕ → List ℕ → List ℕ → List ℕ → Outcome (Unit {0})
 checkPushed s t f i j k = do
   x ← sides s t f i j
@@ -163,13 +170,13 @@ abbrev pub pushedToRaw : List ℕ → List ℕ → List ℕ → List ℕ → Lis
 pushedToRaw s t f i j k = do
   x ← sides s t f i j
   l ← judgePushed x k
-  accepted (matchingSheet (toRaw (mappingOf (x .m .S) (x .m .T) (x .m .F)) (instanceOf (x .run)) (instanceOf (x .pushed)) l))
+  accepted (rawSheet x l)
 
 abbrev pub rawToPushed : List ℕ → List ℕ → List ℕ → List ℕ → List ℕ → List ℕ → Outcome (List ℕ)
 rawToPushed s t f i j k = do
   x ← sides s t f i j
   l ← judgeRaw x k
-  accepted (matchingSheet (toPushed (mappingOf (x .m .S) (x .m .T) (x .m .F)) (instanceOf (x .run)) (instanceOf (x .pushed)) l))
+  accepted (pushedSheet x l)
 
 -- ---- a result in a lent tray: its byte length, or 16 (small tray); bytes beyond it keep their values, and a refusal changes none
 

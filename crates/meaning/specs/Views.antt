@@ -1,6 +1,7 @@
 -- What a sheet holds, by table, edge and row, and as the theory's schema, mapping and instance.
 use mathlib.Core.List.{List, [], List·Memᴰ}
-use Prim.Native.Nat.{ℕ}
+use mathlib.Core.Path.{_≡_}
+use Prim.Native.Nat.{ℕ, _<_}
 use lib.ListN.{length, getD}
 use Rattle.theory.specs.Schema as theorySchema
 use Rattle.theory.specs.Instance as theoryInstance
@@ -70,3 +71,11 @@ follow I es r = theoryInstance.follow (link I) es r
 
 abbrev pub instanceOf : Instance → theoryInstance.Instance ℕ
 instanceOf I = record { count = count I; link = link I; value = value I }
+
+-- each list is as long as the schema and the counts say
+pub record Shaped (S : Schema) (I : Instance) : Type 0 where
+  pub tables : length (I .counts) ≡ S .graph .nodes
+  pub edges : length (I .links) ≡ length (S .graph .edges)
+  pub attributes : length (I .values) ≡ length (S .attributes)
+  pub links : (e : ℕ) → e < length (S .graph .edges) → length (getD (I .links) e []) ≡ count I (source (S .graph) e)
+  pub values : (a : ℕ) → a < length (S .attributes) → length (column I a) ≡ count I (attributeAt S a .node)

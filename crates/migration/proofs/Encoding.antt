@@ -16,19 +16,22 @@ use Rattle.meaning.specs.Sheet.{sound}
 use Rattle.meaning.specs.Formats.{Instance, maxInstanceBytes, instanceSheet, matchingSheet}
 use Rattle.meaning.specs.Views.{schemaOf, mappingOf, instanceOf}
 use Rattle.meaning.specs.Judge.{judgeSchema}
-use Rattle.meaning.specs.Calls.{Outcome, refused, accepted, _>>=_, Migrated, deltaTables, sigmaTables, piTables, sheetOf, Sides, sides, judgePushed, judgeRaw, pushedToRaw, rawToPushed, inTray}
+use Rattle.meaning.specs.Calls.{Outcome, refused, accepted, _>>=_, Migrated, deltaTables, sigmaTables, piTables, sheetOf, Sides, sides, judgePushed, judgeRaw, pushedToRaw, rawToPushed, inTray, rawSheet, pushedSheet}
 use Rattle.meaning.proofs.Lists.{all-of}
 use Rattle.meaning.proofs.Tabulate.{and-both}
 use Rattle.meaning.proofs.Facts.{schema-facts}
 use Rattle.meaning.proofs.Written.{instance-bytes, matching-sheet-length}
-use Rattle.agreement.proofs.Tests.{Refusal, Tests, accepted-same, Decides, decides-giving, refused-in}
-use Rattle.agreement.proofs.Outcomes.{rawSheet, pushedSheet, checkSchema-decided, checkMapping-decided, checkInstance-decided, samePath-decided, checkPushed-decided, checkRaw-decided, delta-answer, sigma-answer, pi-answer, pushedToRaw-answer, rawToPushed-answer, accepted-tray}
+use Rattle.agreement.specs.Tests.{Refusal, Tests, Decides}
+use Rattle.agreement.proofs.Tests.{accepted-same, decides-giving, refused-in}
+use Rattle.agreement.proofs.Outcomes.{checkSchema-decided, checkMapping-decided, checkInstance-decided, samePath-decided, checkPushed-decided, checkRaw-decided, delta-answer, sigma-answer, pi-answer, pushedToRaw-answer, rawToPushed-answer, accepted-tray}
 use Rattle.agreement.proofs.Accepted.{bind-accepted, SidesSound, sides-accepted}
 use Rattle.agreement.proofs.Tables.{rows-sum}
-use Rattle.agreement.proofs.Valid.{ValidInstance, mapping-valid, instance-valid}
+use Rattle.agreement.specs.Valid.{ValidInstance}
+use Rattle.agreement.proofs.Valid.{mapping-valid, instance-valid}
 use Rattle.agreement.proofs.Evenness.{even-iff}
 use Rattle.agreement.proofs.Sigma.{sigma-valid}
-use Rattle.agreement.proofs.Statements.{Lendable, delta-agrees, sigma-agrees, pi-agrees}
+use Rattle.agreement.specs.Agrees.{Lendable}
+use Rattle.agreement.proofs.Agrees.{delta-agrees, sigma-agrees, pi-agrees}
 use Rattle.migration.specs.Encoding.{Says, ExportsSay, maxMatchingBytes, Within, ResultsWithin}
 
 -- ---- byte lengths

@@ -12,7 +12,7 @@ use Rattle.meaning.specs.Program.{printed, shown, push}
 use Rattle.meaning.specs.Calls as meaning
 use Rattle.meaning.specs.Calls.{refused, accepted, sigmaTables}
 use Rattle.meaning.proofs.Facts.{instance-facts}
-use Rattle.agreement.proofs.Statements.{sigma-agrees}
+use Rattle.agreement.proofs.Agrees.{sigma-agrees}
 use Rattle.instance.specs.Decoded.{Room}
 use Rattle.text.specs.declared.Text.{Text}
 use Rattle.text.specs.Written.{maxTextBytes, Printable, Written}

@@ -11,14 +11,13 @@ use Rattle.meaning.specs.Schema as meaning
 use Rattle.meaning.specs.Schema.{Attribute}
 use Rattle.meaning.specs.Formats as formats
 use Rattle.meaning.specs.Formats.{kinds}
-use Rattle.meaning.specs.Views.{count}
+use Rattle.meaning.specs.Views.{Shaped, count}
 use Rattle.meaning.specs.Views as views
 use Rattle.meaning.specs.Judge.{linksInRange}
 use Rattle.meaning.specs.Sigma.{sigma}
-use Rattle.meaning.proofs.Facts.{Shaped}
-use Rattle.agreement.proofs.Instances.{instance-is, links-pass}
+use Rattle.agreement.proofs.Instances.{instance-is, links-iff}
 use Rattle.agreement.proofs.Mappings.{mapping-is}
-use Rattle.agreement.proofs.Valid.{ValidMapping, ValidInstance}
+use Rattle.agreement.specs.Valid.{ValidMapping, ValidInstance}
 use Rattle.agreement.proofs.Evenness.{even-iff}
 use Rattle.agreement.proofs.Sigma.{sigma-total, sigma-valid}
 use Rattle.schema.specs.declared.Schema.{Schema}
@@ -109,4 +108,4 @@ module _ {x : Sides} {links values links′ values′ : List ℕ} (M : Migratabl
   pushed-rows = sigma-total mapping-valid mapping-even run-valid
 
   pub pushed-links-in : linksInRange T (sigma S T F run) ≡ true
-  pushed-links-in = links-pass kinds T (sigma S T F run) (pushed-valid .shaped) (pushed-valid .is)
+  pushed-links-in = links-iff kinds T (sigma S T F run) (pushed-valid .shaped) .1 (pushed-valid .is .link-in)

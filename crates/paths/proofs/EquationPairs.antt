@@ -13,13 +13,14 @@ use Rattle.theory.specs.Schema.{endpoint, IsPath, same, more}
 use Rattle.theory.proofs.Schema.{endpoint-append, path-start, path-first, path-last}
 use Rattle.theory.proofs.Numbering.{tabulate-length, tabulate-getD}
 use Rattle.theory.proofs.Order.{mem-position, mem-getD}
-use Rattle.meaning.specs.Lists.{upto, all}
+use Rattle.meaning.specs.Lists.{upto}
 use Rattle.meaning.specs.Schema as meaning
 use Rattle.meaning.specs.Schema.{target, joins, end}
 use Rattle.meaning.specs.PathEquality.{classes, classOf}
 use Rattle.meaning.specs.Views as views
 use Rattle.meaning.proofs.Lists.{concatMap-in, concatMap-of, in-upto, of-upto, upto-length}
-use Rattle.agreement.proofs.Paths.{WellFormed, schema-is, edgeLists-each, path-short, allPaths-each, pathCount, numberOf, pathAt, number-in, number-path, number-at}
+use Rattle.agreement.specs.Paths.{WellFormed, pathCount, numberOf, pathAt}
+use Rattle.agreement.proofs.Paths.{schema-is, edgeLists-each, path-short, allPaths-each, number-in, number-path, number-at}
 use Rattle.schema.specs.declared.Path.{Path}
 use Rattle.schema.specs.declared.Schema.{Schema}
 use Rattle.schema.specs.Decoded.{graphOf, pathOf, noPath, equationOf, schemaOf}

@@ -14,7 +14,8 @@ use Rattle.theory.specs.Schema.{endpoint}
 use Rattle.theory.proofs.Schema.{endpoint-append}
 use Rattle.meaning.specs.Schema.{Graph, Path, path, source, target, hasLoop}
 use Rattle.meaning.proofs.Tabulate.{filled}
-use Rattle.agreement.proofs.Paths.{pathCount, numberOf, pathAt, number-at}
+use Rattle.agreement.specs.Paths.{pathCount, numberOf, pathAt}
+use Rattle.agreement.proofs.Paths.{number-at}
 use Rattle.schema.specs.declared.Graph as declared
 use Rattle.schema.specs.Decoded.{graphOf}
 use Rattle.schema.specs.Counted.{Fit}

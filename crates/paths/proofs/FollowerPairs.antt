@@ -9,7 +9,7 @@ use lib.ListN.{length, getD}
 use Rattle.theory.proofs.Numbering.{tabulate-length, tabulate-getD}
 use Rattle.theory.proofs.Order.{mem-getD, mem-position}
 use Rattle.meaning.specs.Schema.{Graph, edgeLists, hasLoop}
-use Rattle.agreement.proofs.Paths.{pathCount, pathAt}
+use Rattle.agreement.specs.Paths.{pathCount, pathAt}
 use Rattle.paths.specs.PathNumbers.{endOf, firstOf}
 use Rattle.paths.specs.Table.{Index}
 use Rattle.paths.specs.Classes.{runPairs, followerPairs, RunsIn}

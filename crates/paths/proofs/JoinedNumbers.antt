@@ -12,7 +12,7 @@ use Rattle.meaning.specs.Schema.{path, Equation, Schema, target}
 use Rattle.meaning.specs.PathEquality.{joinClasses, classes}
 use Rattle.meaning.specs.Views.{schemaOf}
 use Rattle.meaning.proofs.Lists.{upto-length, upto-getD}
-use Rattle.agreement.proofs.Paths.{WellFormed, pathCount, numberOf}
+use Rattle.agreement.specs.Paths.{WellFormed, pathCount, numberOf}
 use Rattle.agreement.proofs.Classes.{join-length, join-keeps, join-joins, EqualNumbers, Classified, classified-start, classified-join, classes-one}
 use Rattle.paths.specs.Classes.{joinNumbers}
 

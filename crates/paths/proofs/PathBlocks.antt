@@ -12,7 +12,7 @@ use Rattle.meaning.specs.Lists.{concatMap}
 use Rattle.meaning.specs.Schema.{Graph, Path, path, target, leaving, edgeLists, allPaths, hasLoop}
 use Rattle.meaning.proofs.PathLevels.{concatMap-same, concatMap-append, map-concatMap, concatMap-map, followed, longer, edgeLists-longer}
 use Rattle.meaning.proofs.Lists.{getD-map}
-use Rattle.agreement.proofs.Paths.{pathCount, pathAt}
+use Rattle.agreement.specs.Paths.{pathCount, pathAt}
 use Rattle.paths.specs.PathNumbers.{startOf, endOf, firstOf}
 use Rattle.paths.proofs.PathNumbers.{rest-followed, first-low}
 

@@ -15,7 +15,7 @@ use Rattle.meaning.specs.Schema.{Graph, Path, path, source, leaving, edgeLists,
 use Rattle.meaning.proofs.Heights.{upto-more, filter-one}
 use Rattle.meaning.proofs.PathLevels.{concatMap-append, followed, pathsOfLength-longer}
 use Rattle.meaning.proofs.Lists.{getD-map, upto-length, upto-getD}
-use Rattle.agreement.proofs.Paths.{pathCount, pathAt}
+use Rattle.agreement.specs.Paths.{pathCount, pathAt}
 use Rattle.schema.proofs.Tallies.{loop-count}
 use Rattle.paths.specs.PathNumbers.{firstOf, leavingBelow, rankOf, endOf}
 

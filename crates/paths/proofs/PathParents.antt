@@ -14,7 +14,8 @@ use Rattle.meaning.specs.Lists.{concatMap}
 use Rattle.meaning.specs.Schema.{Graph, Path, path, source, leaving, allPaths, hasLoop}
 use Rattle.meaning.proofs.PathLevels.{followed}
 use Rattle.meaning.proofs.Lists.{concatMap-of}
-use Rattle.agreement.proofs.Paths.{pathCount, numberOf, pathAt, number-at, allPaths-sorted, Before, leaving-iff}
+use Rattle.agreement.specs.Paths.{pathCount, numberOf, pathAt, Before}
+use Rattle.agreement.proofs.Paths.{number-at, allPaths-sorted, leaving-iff}
 use Rattle.paths.specs.PathNumbers.{initial, final, firstOf, endOf, lengthOf, parentOf, lastOf}
 use Rattle.paths.proofs.PathNumbers.{rest-followed}
 

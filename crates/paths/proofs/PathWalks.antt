@@ -10,7 +10,8 @@ use borrow.Author.Tests.{ltb-true, eqb-true}
 use Rattle.theory.specs.Schema.{endpoint}
 use Rattle.meaning.specs.Schema.{Graph, Path, path, source, target, joins, isPath, hasLoop}
 use Rattle.meaning.proofs.Tabulate.{and-both}
-use Rattle.agreement.proofs.Paths.{pathCount, numberOf, pathAt, number-at}
+use Rattle.agreement.specs.Paths.{pathCount, numberOf, pathAt}
+use Rattle.agreement.proofs.Paths.{number-at}
 use Rattle.paths.specs.PathNumbers.{startOf, endOf, firstOf, rankOf}
 use Rattle.paths.specs.Table.{Index}
 use Rattle.paths.specs.PathWalks.{walkFrom, WalkIn}

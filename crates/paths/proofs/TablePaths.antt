@@ -16,7 +16,8 @@ use Rattle.meaning.specs.Schema.{Path, allPaths, pathsFrom}
 use Rattle.meaning.specs.PathEquality.{classOf, classes}
 use Rattle.meaning.specs.Views as views
 use Rattle.meaning.proofs.Lists.{filter-in, filter-of, sorted-filter}
-use Rattle.agreement.proofs.Paths.{WellFormed, pathCount, numberOf, pathAt, number-in, number-path, number-at, pathAt-in, allPaths-each, pathsFrom-each, Before, before-asymmetric, allPaths-sorted, pathsFrom-sorted}
+use Rattle.agreement.specs.Paths.{WellFormed, pathCount, numberOf, pathAt, Before}
+use Rattle.agreement.proofs.Paths.{number-in, number-path, number-at, pathAt-in, allPaths-each, pathsFrom-each, before-asymmetric, allPaths-sorted, pathsFrom-sorted}
 use Rattle.agreement.proofs.Classes.{classes-is}
 use Rattle.schema.specs.declared.Schema.{Schema}
 use Rattle.schema.specs.Decoded.{graphOf, schemaOf}

@@ -6,7 +6,7 @@ use lib.Dec.{eqb}
 use Rattle.meaning.specs.Lists.{upto, filter, concatMap}
 use Rattle.meaning.specs.Schema.{Graph, path, source, end, allPaths}
 use Rattle.meaning.proofs.PathLevels.{followed}
-use Rattle.agreement.proofs.Paths.{numberOf, pathAt}
+use Rattle.agreement.specs.Paths.{numberOf, pathAt}
 
 -- ---- a path without its last edge, and that edge: of the trivial path, itself and 0
 abbrev pub initial : List ℕ → List ℕ

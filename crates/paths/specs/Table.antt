@@ -4,7 +4,7 @@ use mathlib.Core.Path.{_≡_}
 use mathlib.Core.List.{List}
 use lib.ListN.{length, getD}
 use Rattle.meaning.specs.Schema.{Graph, source}
-use Rattle.agreement.proofs.Paths.{pathCount}
+use Rattle.agreement.specs.Paths.{pathCount}
 use Rattle.paths.specs.declared.Paths.{Paths}
 use Rattle.paths.specs.PathNumbers.{startOf, endOf, lengthOf, parentOf, lastOf, firstOf, leavingBelow, rankOf}
 

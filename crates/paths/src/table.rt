@@ -7,7 +7,7 @@ ghost use mathlib.Core.Path.{_≡_};
 ghost use mathlib.Core.Bool.{false};
 ghost use Prim.Native.Nat.{_≤_};
 ghost use Rattle.meaning.specs.Schema.{hasLoop};
-ghost use Rattle.agreement.proofs.Paths.{pathCount};
+ghost use Rattle.agreement.specs.Paths.{pathCount};
 ghost use Rattle.schema.specs.Decoded.{graphOf};
 ghost use Rattle.schema.specs.Counted.{Fit};
 ghost use Rattle.paths.specs.Table.{Ranked, Trivial, NextLeaving, Rows};

@@ -15,7 +15,8 @@ use Rattle.meaning.specs.Views as views
 use Rattle.meaning.specs.Pi.{componentAt, noComponent}
 use Rattle.meaning.proofs.Tabulate.{and-both}
 use Rattle.meaning.proofs.Lists.{and-intro}
-use Rattle.agreement.proofs.Paths.{pathCount, numberOf, pathAt, number-in, number-path, path-iff, path-short, allPaths-each, pathsFrom-each}
+use Rattle.agreement.specs.Paths.{pathCount, numberOf, pathAt}
+use Rattle.agreement.proofs.Paths.{number-in, number-path, path-iff, path-short, allPaths-each, pathsFrom-each}
 use Rattle.schema.specs.declared.Schema.{Schema}
 use Rattle.schema.specs.Decoded.{graphOf, schemaOf}
 use Rattle.schema.proofs.GraphEdges.{edges-count, source-at, target-at}

@@ -23,11 +23,10 @@ use Rattle.meaning.specs.Views.{nodeImage, count, column, follow}
 use Rattle.meaning.specs.Views as views
 use Rattle.meaning.specs.Sigma.{fibreBelow, fibre, lift, linksAlong, attributeOver, firstRow}
 use Rattle.meaning.proofs.PathLevels.{concatMap-append}
-use Rattle.meaning.proofs.Tabulate.{tabulate-same, tabulate-upto}
-use Rattle.meaning.proofs.Tabulate.{and-both}
+use Rattle.meaning.proofs.Tabulate.{tabulate-same, tabulate-upto, and-both}
 use Rattle.agreement.proofs.Paths.{path-iff, path-short}
 use Rattle.agreement.proofs.Mappings.{mapping-is}
-use Rattle.agreement.proofs.Valid.{ValidMapping}
+use Rattle.agreement.specs.Valid.{ValidMapping}
 use Rattle.agreement.proofs.Evenness.{even-iff, lift-is, attributeOver-is}
 use Rattle.schema.specs.declared.Schema.{Schema}
 use Rattle.schema.specs.Decoded.{graphOf, schemaOf, frontOf}

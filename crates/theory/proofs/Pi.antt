@@ -7,13 +7,13 @@ use native.Mathlib.Omega.{arith}
 use Rattle.theory.specs.Schema.{endpoint, IsPath, Lex}
 use Rattle.theory.specs.Instance.{Instance, IsInstance, follow, Alike}
 use Rattle.theory.specs.Mapping.{Mapping, IsMapping, Bijective}
-use Rattle.theory.specs.Pi.{Same, rowsAt, IsPi}
+use Rattle.theory.specs.Pi.{Same, rowsAt, IsPiBy, IsPi}
 use Rattle.theory.proofs.Schema.{path-start, path-end, path-edge, chain-equation, chain-back}
 use Rattle.theory.proofs.Order.{lex-irreflexive, lex-asym, increasing-one}
 use Rattle.theory.proofs.Instance.{follow-within}
-use Rattle.theory.proofs.Family.{object-front, object-attribute, rowsAt-same}
+use Rattle.theory.proofs.Family.{object-front, object-attribute, rowsAt-same, components-one}
 
-module _ {W : Type 0} {F : Mapping} {I P : Instance W} {components : ℕ → List (ℕ × List ℕ)} {row : ℕ → ℕ → ℕ → List ℕ → ℕ} (P-is : IsPi F I P components row) where
+module _ {W : Type 0} {F : Mapping} {I P : Instance W} {components : ℕ → List (ℕ × List ℕ)} {row : ℕ → ℕ → ℕ → List ℕ → ℕ} (P-is : IsPiBy F I P components row) where
   -- a row is known by its rows at the components
   rowsAt-one : (d : ℕ) → d < F .T .nodes → (n m : ℕ) → n < P .count d → m < P .count d → rowsAt (components d) (row d n) ≡ rowsAt (components d) (row d m) → n ≡ m
   rowsAt-one d h n m i j e = go (decLt n m) (decLt m n)
@@ -37,7 +37,7 @@ module _ {W : Type 0} {F : Mapping} {I P : Instance W} {components : ℕ → Lis
   row-one : (d : ℕ) → d < F .T .nodes → (n m : ℕ) → n < P .count d → m < P .count d → Same F d (row d n) (row d m) → n ≡ m
   row-one d h n m i j s = rowsAt-one d h n m i j (rowsAt-same (P-is .components-are d h) (row d n) (row d m) s)
 
-module _ {W : Type 0} {F : Mapping} {I P Q : Instance W} {components : ℕ → List (ℕ × List ℕ)} {row row′ : ℕ → ℕ → ℕ → List ℕ → ℕ} (P-is : IsPi F I P components row) (Q-is : IsPi F I Q components row′) where
+module _ {W : Type 0} {F : Mapping} {I P Q : Instance W} {components : ℕ → List (ℕ × List ℕ)} {row row′ : ℕ → ℕ → ℕ → List ℕ → ℕ} (P-is : IsPiBy F I P components row) (Q-is : IsPiBy F I Q components row′) where
   -- both list the same families in the same order
   listed : (d : ℕ) → d < F .T .nodes → (P .count d ≡ Q .count d) × ((n : ℕ) → n < P .count d → rowsAt (components d) (row d n) ≡ rowsAt (components d) (row′ d n))
   listed d h = increasing-one Lex lex-asym (P .count d) (Q .count d) (λ n. rowsAt (components d) (row d n)) (λ n. rowsAt (components d) (row′ d n))
@@ -52,9 +52,9 @@ module _ {W : Type 0} {F : Mapping} {I P Q : Instance W} {components : ℕ → L
       let e = rowsAt-one Q-is d h (r .0) n (r .1) (rw (listed d h .0) at i) (rowsAt-same (P-is .components-are d h) (row′ d (r .0)) (row d n) (r .2) ∙ listed d h .1 n i) in
       sym (rw e at (r .2 c g o))
 
-  -- there is one Pi
-  pub pi-one : IsMapping F → Bijective F → Alike (F .T) P Q
-  pi-one F-is bijective = record {
+  -- there is one Pi told by these components
+  pi-by-one : IsMapping F → Bijective F → Alike (F .T) P Q
+  pi-by-one F-is bijective = record {
     count = λ d h. listed d h .0;
     link = λ e h n k.
         let s = F-is .T-is .src-in e h in
@@ -77,7 +77,25 @@ module _ {W : Type 0} {F : Mapping} {I P Q : Instance W} {components : ℕ → L
           ∙ ap (I .value a) (pi-one-rows d i n k (F .S .home a) [] (object-attribute F-is a h))
           ∙ sym (Q-is .value a h n (rw (listed d i .0) at k))
 
-module _ {W : Type 0} {F : Mapping} (F-is : IsMapping F) {I P : Instance W} {components : ℕ → List (ℕ × List ℕ)} {row : ℕ → ℕ → ℕ → List ℕ → ℕ} (P-is : IsPi F I P components row) where
+-- there is one Pi, whatever components and families it is told by
+pub pi-one : {W : Type 0} {F : Mapping} {I P Q : Instance W} → IsMapping F → Bijective F → IsPi F I P → IsPi F I Q → Alike (F .T) P Q
+pi-one {F = F} {I} {P} {Q} F-is bijective p q = pi-by-one listed (q .by) F-is bijective
+  where
+    P-is : IsPiBy F I P (p .components) (p .row)
+    P-is = p .by
+
+    listed : IsPiBy F I P (q .components) (p .row)
+    listed = record {
+      components-are = q .by .components-are;
+      family = P-is .family;
+      every = P-is .every;
+      ordered = λ d h n m i k. rw (components-one (q .by .components-are d h) (P-is .components-are d h)) (P-is .ordered d h n m i k);
+      link-in = P-is .link-in;
+      link = P-is .link;
+      value = P-is .value;
+    }
+
+module _ {W : Type 0} {F : Mapping} (F-is : IsMapping F) {I P : Instance W} {components : ℕ → List (ℕ × List ℕ)} {row : ℕ → ℕ → ℕ → List ℕ → ℕ} (P-is : IsPiBy F I P components row) where
   -- Pi gives a valid instance
   pub pi-is : {InRange : ℕ → W → Type 0} → Bijective F → IsInstance InRange (F .S) I → IsInstance InRange (F .T) P
   pi-is {InRange} bijective I-is = record {

@@ -4,7 +4,7 @@ use mathlib.Core.Path.{_≡_}
 use mathlib.Core.List.{List}
 use native.Mathlib.Omega.{arith}
 use borrow.Author.Tests.{leb-true}
-use Rattle.agreement.proofs.Paths.{pathCount}
+use Rattle.agreement.specs.Paths.{pathCount}
 use Rattle.schema.specs.Decoded.{graphOf}
 use Rattle.schema.proofs.Judging.{fit}
 use Rattle.paths.specs.Table.{IsTable}

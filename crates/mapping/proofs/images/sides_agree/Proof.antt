@@ -7,7 +7,7 @@ use lib.ListN.{getD}
 use lib.Dec.{eqb}
 use Rattle.meaning.specs.Schema.{Equation}
 use Rattle.meaning.proofs.Tabulate.{Passed, passed-start, passed-more, passed-fail, passed-done}
-use Rattle.agreement.proofs.Paths.{numberOf}
+use Rattle.agreement.specs.Paths.{numberOf}
 use Rattle.schema.specs.Decoded.{graphOf, noPath}
 use Rattle.mapping.specs.Judged.{sideClass}
 use Rattle.mapping.proofs.Sides.{equation, sides, Side, side}

@@ -4,7 +4,7 @@ use mathlib.Core.Path.{_≡_, refl, sym, ap, _∙_, subst}
 use native.Mathlib.Omega.{arith}
 use lib.ListN.{length}
 use Rattle.meaning.specs.Schema.{Graph, source}
-use Rattle.agreement.proofs.Paths.{pathCount}
+use Rattle.agreement.specs.Paths.{pathCount}
 use Rattle.schema.specs.Decoded.{graphOf}
 use Rattle.schema.proofs.GraphEdges.{edges-count, target-at}
 use Rattle.paths.specs.PathNumbers.{firstOf, endOf}

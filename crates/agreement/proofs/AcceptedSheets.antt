@@ -1,0 +1,283 @@
+-- The path question and the migrations on accepted sheets: which refusal of all sheets together, by what it counts, or which result.
+use Prim.Native.Nat.{ℕ, _<_}
+use mathlib.Core.Path.{_≡_, refl, sym, ap, _∙_, subst}
+use mathlib.Core.Bool.{Bool, true, false, _&&_}
+use mathlib.Core.List.{List, [], _∷_, List·Memᴰ, List·Memᴰ·head, List·Memᴰ·tail}
+use mathlib.Core.Logic.{_↔_}
+use native.Mathlib.Omega.{arith}
+use lib.ListN.{length, length-map}
+use lib.Dec.{leb}
+use borrow.Author.Tests.{leb-true, leb-false, lt-leb}
+use Rattle.theory.specs.Instance as theory
+use Rattle.theory.specs.Mapping.{Even, Bijective}
+use Rattle.theory.specs.Schema.{IsPath}
+use Rattle.theory.specs.Pi.{IsComponents, IsPi}
+use Rattle.theory.proofs.Instance.{alike-rows}
+use Rattle.theory.proofs.Family.{components-one}
+use Rattle.meaning.specs.Lists.{all, upto, sumOf}
+use Rattle.meaning.specs.Schema.{Path, Schema, isPath}
+use Rattle.meaning.specs.PathEquality.{equal}
+use Rattle.meaning.specs.Sheet.{sound, onSheet}
+use Rattle.meaning.specs.Formats.{Mapping, Instance, maxComponents, maxRows, readPathSheet}
+use Rattle.meaning.specs.Views.{schemaOf, mappingOf, instanceOf}
+use Rattle.meaning.specs.Judge.{judgePath, judgeSchema}
+use Rattle.meaning.specs.Delta.{delta}
+use Rattle.meaning.specs.Evenness.{even}
+use Rattle.meaning.specs.Sigma.{sigma}
+use Rattle.meaning.specs.Pi.{isBijective, components, hasFewComponents, pi}
+use Rattle.meaning.specs.Calls.{Outcome, refused, accepted, _>>=_, ensure, ensureFits, samePath, Migrated, deltaTables, sigmaTables, piTables}
+use Rattle.meaning.proofs.Lists.{no-bool, test-false, upto-all, of-upto}
+use Rattle.meaning.proofs.Readers.{sound-same, bind-sound, ensure-sound}
+use Rattle.meaning.proofs.Facts.{schema-facts}
+use Rattle.agreement.specs.Valid.{ValidMapping}
+use Rattle.agreement.proofs.Valid.{mapping-valid, instance-valid}
+use Rattle.agreement.proofs.Tests.{refused-not-accepted, accepted-same}
+use Rattle.agreement.proofs.Tables.{rows-sum}
+use Rattle.agreement.proofs.Paths.{path-iff}
+use Rattle.agreement.proofs.Classes.{equal-paths-iff}
+use Rattle.agreement.proofs.Mappings.{schema-well-formed}
+use Rattle.agreement.proofs.Evenness.{even-iff}
+use Rattle.agreement.proofs.Delta.{delta-rows}
+use Rattle.agreement.proofs.Sigma.{sigma-never-overfull}
+use Rattle.agreement.proofs.Bijections.{bijective-iff}
+use Rattle.agreement.proofs.Pi.{pi-shaped, pi-is-pi, pi-only}
+use Rattle.agreement.proofs.Components.{asPair, asPairs, components-are}
+use Rattle.agreement.specs.Agrees.{PathAnswers, Inputs, DeltaOverfull, DeltaAnswers, SigmaAnswers, Wide, PiOverfull, PiAnswers}
+
+-- a test that is false exactly where A holds is true exactly where A does not
+true-iff : {A : Type 0} (b : Bool) → (b ≡ false) ↔ A → (b ≡ true) ↔ (A → ⊥)
+true-iff true h = (λ e a. no-bool (h .1 a), λ n. refl)
+true-iff false h = (λ e a. no-bool (sym e), λ n. absurd (n (h .0 refl)))
+
+-- and the other way
+false-iff : {A : Type 0} (b : Bool) → (b ≡ true) ↔ A → (b ≡ false) ↔ (A → ⊥)
+false-iff true h = (λ e a. no-bool e, λ n. absurd (n (h .0 refl)))
+false-iff false h = (λ e a. no-bool (sym (h .1 a)), λ n. refl)
+
+-- ---- what they count
+
+all-fails : {A : Type 0} (f : A → Bool) (l : List A) → all f l ≡ false → (a : A) × List·Memᴰ a l × (f a ≡ false)
+all-fails f [] e = absurd (no-bool e)
+all-fails {A} f (x ∷ l) e = go (f x) refl e (all-fails f l)
+  where
+    go : (b : Bool) → f x ≡ b → (b && all f l) ≡ false → (all f l ≡ false → (a : A) × List·Memᴰ a l × (f a ≡ false)) → (a : A) × List·Memᴰ a (x ∷ l) × (f a ≡ false)
+    go true p e below = let r = below e in (r .0, List·Memᴰ·tail (r .1), r .2)
+    go false p e below = (x, List·Memᴰ·head refl, p)
+
+module _ {S T : Schema} {F : Mapping} (v : ValidMapping S T F) where
+  abbrev few : ℕ → Bool
+  few d = leb (length (components S T F d)) maxComponents
+
+  -- there is one list of components
+  as-many : (d : ℕ) → d < T .graph .nodes → (ks : List (ℕ × List ℕ)) → IsComponents (mappingOf S T F) d ks → length ks ≡ length (components S T F d)
+  as-many d h ks k = ap length (components-one k (components-are v d h)) ∙ length-map (components S T F d) asPair
+
+  wide-iff : (hasFewComponents S T F ≡ false) ↔ Wide (mappingOf S T F)
+  wide-iff = (
+    wide,
+    λ w. test-false (hasFewComponents S T F) (λ e.
+        let h = leb-true (length (components S T F (w .0))) maxComponents (upto-all few (T .graph .nodes) e (w .0) (w .1)) in
+        let k = as-many (w .0) (w .1) (w .2) (w .3) in
+        let l = w .4 in
+        omega arith),
+  )
+    where
+      wide : hasFewComponents S T F ≡ false → Wide (mappingOf S T F)
+      wide e =
+          let r = all-fails few (upto (T .graph .nodes)) e in
+          let d = r .0 in
+          let h = of-upto (T .graph .nodes) (r .1) in
+          let c = components-are v d h in
+          (d, h, asPairs (components S T F d), c, rw (as-many d h (asPairs (components S T F d)) c) (leb-false (length (components S T F d)) maxComponents (r .2)))
+
+  module _ (I : Instance) (paired : Bijective (mappingOf S T F)) where
+    abbrev total : ℕ
+    total = sumOf (pi S T F I .counts)
+
+    -- every Pi has as many rows
+    as-many-rows : {P : theory.Instance ℕ} → IsPi (mappingOf S T F) (instanceOf I) P → theory.rows (schemaOf T) P ≡ total
+    as-many-rows P-is = alike-rows (pi-only v I paired P-is) ∙ rows-sum T (pi S T F I) (pi-shaped v I .tables)
+
+    overfull-iff : (leb total maxRows ≡ false) ↔ PiOverfull (mappingOf S T F) (instanceOf I)
+    overfull-iff = (
+      λ e. (instanceOf (pi S T F I), pi-is-pi v I paired, rw (as-many-rows (pi-is-pi v I paired)) (leb-false total maxRows e)),
+      λ h. lt-leb total maxRows (rw (as-many-rows (h .1)) at (h .2)),
+    )
+
+-- ---- the call: 13, then 14, then 15
+
+-- what is yielded, by the three tests
+abbrev answer : Schema → Instance → Bool → Bool → Bool → Outcome Migrated
+answer T P p q r = do
+  _ ← ensure p 13
+  _ ← ensure q 14
+  K ← (do
+    _ ← ensure r 15
+    accepted P)
+  accepted (record { schema = T; tables = K })
+
+differ : {A : Type 0} {n m : ℕ} → (n ≡ m → ⊥) → _≡_ {A = Outcome A} (refused n 0) (refused m 0) → ⊥
+differ h e = h (cc)
+
+module _ (T : Schema) (P : Instance) where
+  answer-13 : (p q r : Bool) → (answer T P p q r ≡ refused 13 0) ↔ (p ≡ false)
+  answer-13 false q r = (λ e. refl, λ e. refl)
+  answer-13 true false r = (λ e. absurd (differ (λ h. omega arith) e), λ e. absurd (no-bool e))
+  answer-13 true true false = (λ e. absurd (differ (λ h. omega arith) e), λ e. absurd (no-bool e))
+  answer-13 true true true = (λ e. absurd (refused-not-accepted (sym e)), λ e. absurd (no-bool e))
+
+  answer-14 : (p q r : Bool) → (answer T P p q r ≡ refused 14 0) ↔ ((p ≡ true) × (q ≡ false))
+  answer-14 false q r = (λ e. absurd (differ (λ h. omega arith) e), λ e. absurd (no-bool (sym (e .0))))
+  answer-14 true false r = (λ e. (refl, refl), λ e. refl)
+  answer-14 true true false = (λ e. absurd (differ (λ h. omega arith) e), λ e. absurd (no-bool (e .1)))
+  answer-14 true true true = (λ e. absurd (refused-not-accepted (sym e)), λ e. absurd (no-bool (e .1)))
+
+  answer-15 : (p q r : Bool) → (answer T P p q r ≡ refused 15 0) ↔ ((p ≡ true) × (q ≡ true) × (r ≡ false))
+  answer-15 false q r = (λ e. absurd (differ (λ h. omega arith) e), λ e. absurd (no-bool (sym (e .0))))
+  answer-15 true false r = (λ e. absurd (differ (λ h. omega arith) e), λ e. absurd (no-bool (sym (e .1))))
+  answer-15 true true false = (λ e. (refl, refl, refl), λ e. refl)
+  answer-15 true true true = (λ e. absurd (refused-not-accepted (sym e)), λ e. absurd (no-bool (e .2)))
+
+  answer-result : (p q r : Bool) → ((M : Migrated) × (answer T P p q r ≡ accepted M)) ↔ ((p ≡ true) × (q ≡ true) × (r ≡ true))
+  answer-result false q r = (λ e. absurd (refused-not-accepted (e .1)), λ e. absurd (no-bool (sym (e .0))))
+  answer-result true false r = (λ e. absurd (refused-not-accepted (e .1)), λ e. absurd (no-bool (sym (e .1))))
+  answer-result true true false = (λ e. absurd (refused-not-accepted (e .1)), λ e. absurd (no-bool (sym (e .2))))
+  answer-result true true true = (λ e. (refl, refl, refl), λ e. (record { schema = T; tables = P }, refl))
+
+module _ (s t f i : List ℕ) {S T : Schema} {F : Mapping} {I : Instance} (x : Inputs s t f i S T S F I) where
+  abbrev paired : Bool
+  paired = isBijective T F
+
+  abbrev narrow : Bool
+  narrow = hasFewComponents S T F
+
+  abbrev fitting : Bool
+  fitting = leb (sumOf (pi S T F I .counts)) maxRows
+
+  yields : piTables s t f i ≡ answer T (pi S T F I) paired narrow fitting
+  yields = rw (x .S-accepted, x .T-accepted, x .F-accepted, x .I-accepted)
+
+  yields-iff : {o : Outcome Migrated} {A : Type 0} → (answer T (pi S T F I) paired narrow fitting ≡ o) ↔ A → (piTables s t f i ≡ o) ↔ A
+  yields-iff h = (λ e. h .0 (sym yields ∙ e), λ k. yields ∙ h .1 k)
+
+  v : ValidMapping S T F
+  v = mapping-valid s t f (x .S-accepted) (x .T-accepted) (x .F-accepted)
+
+  pairs : (paired ≡ true) ↔ Bijective (mappingOf S T F)
+  pairs = bijective-iff v
+
+  -- which refusal of all sheets together, or a result, Pi yields
+  pub pi-answers : PiAnswers s t f i (mappingOf S T F) (instanceOf I)
+  pi-answers =
+      let unpaired = false-iff paired pairs in
+      let wide = wide-iff v in
+      let narrows = true-iff narrow wide in
+      record {
+        unpaired = yields-iff (
+          λ e. unpaired .0 (answer-13 T (pi S T F I) paired narrow fitting .0 e),
+          λ h. answer-13 T (pi S T F I) paired narrow fitting .1 (unpaired .1 h),
+        );
+        wide = yields-iff (
+          λ e. let r = answer-14 T (pi S T F I) paired narrow fitting .0 e in (pairs .0 (r .0), wide .0 (r .1)),
+          λ h. answer-14 T (pi S T F I) paired narrow fitting .1 (pairs .1 (h .0), wide .1 (h .1)),
+        );
+        overfull = yields-iff (
+          λ e. let r = answer-15 T (pi S T F I) paired narrow fitting .0 e in
+              let b = pairs .0 (r .0) in
+              (b, narrows .0 (r .1), overfull-iff v I b .0 (r .2)),
+          λ h. answer-15 T (pi S T F I) paired narrow fitting .1 (pairs .1 (h .0), narrows .1 (h .1), overfull-iff v I (h .0) .1 (h .2)),
+        );
+        result = (
+          λ e. let r = answer-result T (pi S T F I) paired narrow fitting .0 (e .0, sym yields ∙ e .1) in
+              let b = pairs .0 (r .0) in
+              (b, narrows .0 (r .1), true-iff fitting (overfull-iff v I b) .0 (r .2)),
+          λ h. let r = answer-result T (pi S T F I) paired narrow fitting .1 (pairs .1 (h .0), narrows .1 (h .1), true-iff fitting (overfull-iff v I (h .0)) .1 (h .2)) in
+              (r .0, yields ∙ r .1),
+        );
+      }
+
+-- ---- Delta: 15
+
+module _ (s t f j : List ℕ) {S T : Schema} {F : Mapping} {J : Instance} (x : Inputs s t f j S T T F J) where
+  delta-answer : Bool → Outcome Migrated
+  delta-answer r = do
+    K ← (do
+      _ ← ensure r 15
+      accepted (delta S F J))
+    accepted (record { schema = S; tables = K })
+
+  delta-yields : deltaTables s t f j ≡ delta-answer (leb (sumOf (delta S F J .counts)) maxRows)
+  unfolding delta-answer
+  delta-yields = rw (x .S-accepted, x .T-accepted, x .F-accepted, x .I-accepted)
+
+  delta-by : (r : Bool) → ((delta-answer r ≡ refused 15 0) ↔ (r ≡ false)) × (((M : Migrated) × (delta-answer r ≡ accepted M)) ↔ (r ≡ true))
+  unfolding delta-answer
+  delta-by true = ((λ e. absurd (refused-not-accepted (sym e)), λ e. absurd (no-bool e)), (λ e. refl, λ e. (record { schema = S; tables = delta S F J }, refl)))
+  delta-by false = ((λ e. refl, λ e. refl), (λ e. absurd (refused-not-accepted (e .1)), λ e. absurd (no-bool (sym e))))
+
+  pub delta-answers : DeltaAnswers s t f j (mappingOf S T F) (instanceOf J)
+  delta-answers =
+      let v = mapping-valid s t f (x .S-accepted) (x .T-accepted) (x .F-accepted) in
+      let n = sumOf (delta S F J .counts) in
+      let e = delta-rows v J (instance-valid T j (x .I-accepted) .shaped) in
+      let b = delta-by (leb n maxRows) in
+      let o : (leb n maxRows ≡ false) ↔ DeltaOverfull (mappingOf S T F) (instanceOf J) = (λ h. rw e (leb-false n maxRows h), λ h. lt-leb n maxRows (rw e at h)) in
+      let r = true-iff (leb n maxRows) o in
+      record {
+        overfull = (λ h. o .0 (b .0 .0 (sym delta-yields ∙ h)), λ h. delta-yields ∙ b .0 .1 (o .1 h));
+        result = (λ h. r .0 (b .1 .0 (h .0, sym delta-yields ∙ h .1)), λ h. let k = b .1 .1 (r .1 h) in (k .0, delta-yields ∙ k .1));
+      }
+
+-- ---- Sigma: 12
+
+module _ (s t f i : List ℕ) {S T : Schema} {F : Mapping} {I : Instance} (x : Inputs s t f i S T S F I) where
+  sigma-answer : Bool → Outcome Migrated
+  sigma-answer r = do
+    _ ← ensure r 12
+    P ← ensureFits (sigma S T F I)
+    accepted (record { schema = T; tables = P })
+
+  sigma-yields : sigmaTables s t f i ≡ sigma-answer (even S T F)
+  unfolding sigma-answer
+  sigma-yields = rw (x .S-accepted, x .T-accepted, x .F-accepted, x .I-accepted)
+
+  v′ : ValidMapping S T F
+  v′ = mapping-valid s t f (x .S-accepted) (x .T-accepted) (x .F-accepted)
+
+  sigma-by : (r : Bool) → (r ≡ true → Even (mappingOf S T F)) → ((sigma-answer r ≡ refused 12 0) ↔ (r ≡ false)) × (((M : Migrated) × (sigma-answer r ≡ accepted M)) ↔ (r ≡ true))
+  unfolding sigma-answer
+  sigma-by true h =
+      let e = sigma-never-overfull v′ (h refl) (instance-valid S i (x .I-accepted)) in
+      rw e ((λ k. absurd (refused-not-accepted (sym k)), λ k. absurd (no-bool k)), (λ k. refl, λ k. (record { schema = T; tables = sigma S T F I }, refl)))
+  sigma-by false h = ((λ e. refl, λ e. refl), (λ e. absurd (refused-not-accepted (e .1)), λ e. absurd (no-bool (sym e))))
+
+  pub sigma-answers : SigmaAnswers s t f i (mappingOf S T F)
+  sigma-answers =
+      let w = even-iff v′ in
+      let b = sigma-by (even S T F) (w .0) in
+      let o = false-iff (even S T F) w in
+      record {
+        uneven = (λ h. o .0 (b .0 .0 (sym sigma-yields ∙ h)), λ h. sigma-yields ∙ b .0 .1 (o .1 h));
+        result = (λ h. w .0 (b .1 .0 (h .0, sym sigma-yields ∙ h .1)), λ h. let k = b .1 .1 (w .1 h) in (k .0, sigma-yields ∙ k .1));
+      }
+
+-- ---- the path question
+
+module _ (s p q : List ℕ) {S : Schema} {P Q : Path} (a : judgeSchema s ≡ sound S) (b : judgePath (S .graph) p ≡ sound P) (c : judgePath (S .graph) q ≡ sound Q) where
+  path-yields : samePath s p q ≡ accepted (equal S P Q)
+  path-yields = rw (a, b, c)
+
+  is-path : (p : List ℕ) {P : Path} → judgePath (S .graph) p ≡ sound P → IsPath (schemaOf S) (P .start) (P .edges)
+  is-path p {P} e =
+      let r = bind-sound (onSheet readPathSheet p) _ e in
+      let t = ensure-sound (isPath (S .graph) (r .0)) 4 _ (r .2) in
+      subst (λ (X : Path). IsPath (schemaOf S) (X .start) (X .edges)) (sound-same (t .1)) (path-iff S (schema-facts s a .well-formed) (r .0 .start) (r .0 .edges) .0 (t .0))
+
+  pub path-answers : PathAnswers s p q S P Q
+  path-answers =
+      let w = equal-paths-iff S (schema-well-formed (schema-facts s a)) P Q (is-path p b) (is-path q c) in
+      let n = false-iff (equal S P Q) w in
+      record {
+        yes = (λ h. w .0 (accepted-same (sym path-yields ∙ h)), λ h. path-yields ∙ ap accepted (w .1 h));
+        no = (λ h. n .0 (accepted-same (sym path-yields ∙ h)), λ h. path-yields ∙ ap accepted (n .1 h));
+      }

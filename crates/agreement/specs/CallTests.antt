@@ -1,0 +1,126 @@
+-- The tests of each call, in the order of document 01: sheets by place, then 12, 13, 14, 15 at place 0, then the matching sheet, last 16; and what a
+-- result leaves in a tray.
+use Prim.Native.Nat.{ℕ, _≤_}
+use mathlib.Core.Path.{_≡_}
+use mathlib.Core.Bool.{Bool}
+use mathlib.Core.List.{List, [], _∷_, _++_}
+use lib.ListN.{length, getD, take}
+use lib.Dec.{leb}
+use Rattle.meaning.specs.Lists.{sumOf}
+use Rattle.meaning.specs.PathEquality.{equal}
+use Rattle.meaning.specs.Formats.{Instance, maxRows, instanceSheet}
+use Rattle.meaning.specs.Delta.{delta}
+use Rattle.meaning.specs.Evenness.{even}
+use Rattle.meaning.specs.Sigma.{sigma}
+use Rattle.meaning.specs.Pi.{isBijective, hasFewComponents, pi}
+use Rattle.meaning.specs.Calls.{Outcome, accepted, Migration, Migrated, Sides, inTray}
+use Rattle.agreement.specs.Tests.{Refusal, Tests, done, test, then, giving, holds}
+use Rattle.agreement.specs.SheetTests.{placed, schemaNumbers, schemaTests, pathNumbers, pathTests, mappingNumbers, mappingTests, instanceNumbers, instanceTests, matchingNumbers, matchingTests}
+
+-- ---- checks and the path question
+
+abbrev pub checkSchemaTests : List ℕ → Tests (Unit {0}) (placed 1 schemaNumbers)
+checkSchemaTests s = giving (schemaTests 1 s) (λ S. tt)
+
+abbrev pub migrationRefusals : List Refusal
+migrationRefusals = placed 1 schemaNumbers ++ placed 2 schemaNumbers ++ placed 3 mappingNumbers
+
+abbrev pub migrationTests : List ℕ → List ℕ → List ℕ → Tests Migration migrationRefusals
+migrationTests s t f =
+    then (schemaTests 1 s) (λ S.
+    then (schemaTests 2 t) (λ T.
+    giving (mappingTests 3 S T f) (λ F. record { S = S; T = T; F = F })))
+
+abbrev pub checkMappingTests : List ℕ → List ℕ → List ℕ → Tests (Unit {0}) migrationRefusals
+checkMappingTests s t f = giving (migrationTests s t f) (λ m. tt)
+
+abbrev pub checkInstanceTests : List ℕ → List ℕ → Tests (Unit {0}) (placed 1 schemaNumbers ++ placed 2 instanceNumbers)
+checkInstanceTests s i = then (schemaTests 1 s) (λ S. giving (instanceTests 2 S i) (λ I. tt))
+
+abbrev pub samePathTests : List ℕ → List ℕ → List ℕ → Tests Bool (placed 1 schemaNumbers ++ placed 2 pathNumbers ++ placed 3 pathNumbers)
+samePathTests s p q = then (schemaTests 1 s) (λ S. then (pathTests 2 (S .graph) p) (λ P. giving (pathTests 3 (S .graph) q) (λ Q. equal S P Q)))
+
+-- ---- migrations
+
+-- a condition of all sheets together
+abbrev pub together : (n : ℕ) → Bool → Tests (Unit {0}) ((n, 0) ∷ [])
+together n b = test (n, 0) (holds b) done
+
+abbrev pub fitsTests : Instance → Tests Instance ((15, 0) ∷ [])
+fitsTests J = giving (together 15 (leb (sumOf (J .counts)) maxRows)) (λ _. J)
+
+abbrev pub deltaRefusals : List Refusal
+deltaRefusals = migrationRefusals ++ placed 4 instanceNumbers ++ (15, 0) ∷ []
+
+abbrev pub deltaTests : List ℕ → List ℕ → List ℕ → List ℕ → Tests Migrated deltaRefusals
+deltaTests s t f j =
+    then (migrationTests s t f) (λ m.
+    then (instanceTests 4 (m .T) j) (λ J.
+    giving (fitsTests (delta (m .S) (m .F) J)) (λ D. record { schema = m .S; tables = D })))
+
+abbrev pub sigmaRefusals : List Refusal
+sigmaRefusals = migrationRefusals ++ placed 4 instanceNumbers ++ (12, 0) ∷ (15, 0) ∷ []
+
+abbrev pub sigmaTests : List ℕ → List ℕ → List ℕ → List ℕ → Tests Migrated sigmaRefusals
+sigmaTests s t f i =
+    then (migrationTests s t f) (λ m.
+    then (instanceTests 4 (m .S) i) (λ I.
+    then (together 12 (even (m .S) (m .T) (m .F))) (λ _.
+    giving (fitsTests (sigma (m .S) (m .T) (m .F) I)) (λ P. record { schema = m .T; tables = P }))))
+
+abbrev pub piRefusals : List Refusal
+piRefusals = migrationRefusals ++ placed 4 instanceNumbers ++ (13, 0) ∷ (14, 0) ∷ (15, 0) ∷ []
+
+abbrev pub piTests : List ℕ → List ℕ → List ℕ → List ℕ → Tests Migrated piRefusals
+piTests s t f i =
+    then (migrationTests s t f) (λ m.
+    then (instanceTests 4 (m .S) i) (λ I.
+    then (together 13 (isBijective (m .T) (m .F))) (λ _.
+    then (together 14 (hasFewComponents (m .S) (m .T) (m .F))) (λ _.
+    giving (fitsTests (pi (m .S) (m .T) (m .F) I)) (λ P. record { schema = m .T; tables = P })))))
+
+-- ---- checkers and turnings
+
+abbrev pub sidesRefusals : List Refusal
+sidesRefusals = migrationRefusals ++ placed 4 instanceNumbers ++ placed 5 instanceNumbers ++ (12, 0) ∷ (15, 0) ∷ (15, 0) ∷ []
+
+abbrev pub sidesTests : List ℕ → List ℕ → List ℕ → List ℕ → List ℕ → Tests Sides sidesRefusals
+sidesTests s t f i j =
+    then (migrationTests s t f) (λ m.
+    then (instanceTests 4 (m .S) i) (λ I.
+    then (instanceTests 5 (m .T) j) (λ J.
+    then (together 12 (even (m .S) (m .T) (m .F))) (λ _.
+    then (fitsTests (sigma (m .S) (m .T) (m .F) I)) (λ P.
+    giving (fitsTests (delta (m .S) (m .F) J)) (λ D. record { m = m; run = I; book = J; pushed = P; pulled = D }))))))
+
+abbrev pub matchingRefusals : List Refusal
+matchingRefusals = sidesRefusals ++ placed 6 matchingNumbers
+
+module _ (s t f i j k : List ℕ) where
+  -- what is made of the two sides and the pushed list, and of the two sides and the raw list
+  abbrev pub pushedTests : {A : Type 0} → (Sides → List ℕ → A) → Tests A matchingRefusals
+  pushedTests g = then (sidesTests s t f i j) (λ x. giving (matchingTests 6 (x .m .T) (x .pushed) (x .book) k) (g x))
+
+  abbrev pub rawTests : {A : Type 0} → (Sides → List ℕ → A) → Tests A matchingRefusals
+  rawTests g = then (sidesTests s t f i j) (λ x. giving (matchingTests 6 (x .m .S) (x .run) (x .pulled) k) (g x))
+
+-- ---- results in a tray: 16 last
+
+abbrev pub trayTests : {rs : List Refusal} → List ℕ → Tests (List ℕ) rs → Tests ℕ (rs ++ (16, 0) ∷ [])
+trayTests tray t = then t (λ bytes. test (16, 0) (holds (leb (length bytes) (length tray))) (λ _. done (length bytes)))
+
+-- the sheet of a migrated instance
+abbrev pub sheetTests : {rs : List Refusal} → List ℕ → Tests Migrated rs → Tests ℕ (rs ++ (16, 0) ∷ [])
+sheetTests tray t = trayTests tray (giving t (λ m. instanceSheet (m .tables)))
+
+-- ---- the lent bytes
+
+-- an accepted result: its byte length, the result in front, and the lent bytes behind it
+pub record Result (tray : List ℕ) (o : Outcome (List ℕ)) (n : ℕ) : Type 0 where
+  pub bytes : List ℕ
+  pub result : o ≡ accepted bytes
+  pub size : length bytes ≡ n
+  pub room : n ≤ length tray
+  pub front : take n (inTray tray o .tray) ≡ bytes
+  pub beyond : (i : ℕ) → n ≤ i → getD (inTray tray o .tray) i 0 ≡ getD tray i 0
+  pub whole : length (inTray tray o .tray) ≡ length tray

@@ -1,0 +1,60 @@
+-- What accepted mappings and instances are, in the tables and as the theory has them, and the part of it that each of the tests 7 to 11 decides.
+use Prim.Native.Nat.{ℕ, _<_, _≤_}
+use mathlib.Core.Path.{_≡_}
+use mathlib.Core.List.{List}
+use lib.ListN.{length, getD}
+use Rattle.theory.specs.Schema as theorySchema
+use Rattle.theory.specs.Schema.{IsPath, Chain, endpoint}
+use Rattle.theory.specs.Instance as theoryInstance
+use Rattle.theory.specs.Instance.{IsInstance, follow}
+use Rattle.theory.specs.Mapping as theoryMapping
+use Rattle.theory.specs.Mapping.{IsMapping, image}
+use Rattle.meaning.specs.Lists.{sumOf}
+use Rattle.meaning.specs.Schema.{Schema}
+use Rattle.meaning.specs.Formats.{Mapping, Instance, maxRows, kinds}
+use Rattle.meaning.specs.Views.{Shaped, schemaOf, mappingOf, instanceOf}
+use Rattle.agreement.specs.Paths.{WellFormed}
+
+-- v is a value of kind k, by the list ks of each kind's largest
+abbrev pub InRange : List ℕ → ℕ → ℕ → Type 0
+InRange ks k v = v ≤ getD ks k 0
+
+pub record ValidMapping (S T : Schema) (F : Mapping) : Type 0 where
+  pub S-formed : WellFormed S
+  pub T-formed : WellFormed T
+  pub attributes : length (F .attributes) ≡ length (S .attributes)
+  pub is : IsMapping (mappingOf S T F)
+
+pub record ValidInstance (S : Schema) (I : Instance) : Type 0 where
+  pub shaped : Shaped S I
+  pub is : IsInstance (InRange kinds) (schemaOf S) (instanceOf I)
+  pub few-rows : sumOf (I .counts) ≤ maxRows
+
+-- ---- of a mapping: fields of `IsMapping`
+
+-- 7: images exist, join and have the right ends; an attribute's image has its kind, at its node's image
+pub record ImagesFit (F : theoryMapping.Mapping) : Type 0 where
+  pub node-in : (c : ℕ) → c < F .S .nodes → F .node c < F .T .nodes
+  pub edge-path : (e : ℕ) → e < F .S .edges → IsPath (F .T) (F .node (F .S .src e)) (F .edge e)
+  pub edge-end : (e : ℕ) → e < F .S .edges → endpoint (F .T .tgt) (F .node (F .S .src e)) (F .edge e) ≡ F .node (F .S .tgt e)
+  pub attribute-in : (a : ℕ) → a < F .S .attributes → F .attribute a < F .T .attributes
+  pub attribute-home : (a : ℕ) → a < F .S .attributes → F .T .home (F .attribute a) ≡ F .node (F .S .home a)
+  pub attribute-kind : (a : ℕ) → a < F .S .attributes → F .T .kind (F .attribute a) ≡ F .S .kind a
+
+-- 8: each equation of S has equal images
+abbrev pub KeepsEquations : theoryMapping.Mapping → Type 0
+KeepsEquations F = (s : ℕ) (a b : List ℕ) → F .S .Equation s a b → Chain (F .T) (F .node s) (image (F .edge) a) (image (F .edge) b)
+
+-- ---- of an instance: the fields of `IsInstance`
+
+-- 9: each target row is below its table's count
+abbrev pub LinksIn : theorySchema.Schema → theoryInstance.Instance ℕ → Type 0
+LinksIn S I = (e : ℕ) → e < S .edges → (x : ℕ) → x < I .count (S .src e) → I .link e x < I .count (S .tgt e)
+
+-- 10: each value is one of its kind
+abbrev pub ValuesIn : List ℕ → theorySchema.Schema → theoryInstance.Instance ℕ → Type 0
+ValuesIn ks S I = (a : ℕ) → a < S .attributes → (x : ℕ) → x < I .count (S .home a) → InRange ks (S .kind a) (I .value a x)
+
+-- 11: the two sides of each equation lead each row to the same row
+abbrev pub ObeysEquations : theorySchema.Schema → theoryInstance.Instance ℕ → Type 0
+ObeysEquations S I = (s : ℕ) (a b : List ℕ) → S .Equation s a b → (x : ℕ) → x < I .count s → follow (I .link) a x ≡ follow (I .link) b x

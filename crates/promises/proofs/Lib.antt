@@ -1,0 +1,2 @@
+-- Each promise, proved.
+pub mod Promises

@@ -1,0 +1,93 @@
+-- Each promise of specs/Promises.antt, by the law that proves it.
+use lib.ListN.{length}
+use borrow.Author.Tests.{leb-true, le-leb}
+use Rattle.theory.proofs.Mapping.{image-chain}
+use Rattle.theory.proofs.Sigma.{sigma-one}
+use Rattle.theory.proofs.Pi.{pi-one}
+use Rattle.meaning.specs.Schema.{allPaths}
+use Rattle.meaning.specs.Formats.{maxPaths, kinds}
+use Rattle.meaning.proofs.Facts.{mapping-sized, instance-shaped}
+use Rattle.meaning.proofs.Examples.{vendor, operator, vendorToOperator, run, book}
+use Rattle.agreement.proofs.Paths.{schema-iff, path-iff, paths-listed}
+use Rattle.agreement.proofs.Loops.{loop-iff, height-iff, height-one}
+use Rattle.agreement.proofs.Mappings.{images-iff, keeps-iff}
+use Rattle.agreement.proofs.Instances.{links-iff, values-iff, equations-iff}
+use Rattle.agreement.proofs.Tests.{refused-iff, accepted-iff, refused-in}
+use Rattle.agreement.proofs.Refusals.{crowd-iff}
+use Rattle.agreement.proofs.Outcomes.{checkSchema-decided, checkMapping-decided, checkInstance-decided, samePath-decided, delta-answer, sigma-answer, pi-answer, checkPushed-decided, checkRaw-decided, pushedToRaw-answer, rawToPushed-answer, refused-tray, accepted-tray}
+use Rattle.agreement.proofs.Valid.{mapping-valid, instance-accepted-iff}
+use Rattle.agreement.proofs.Evenness.{even-iff}
+use Rattle.agreement.proofs.Pi.{pi-single}
+use Rattle.agreement.proofs.AcceptedSheets.{path-answers, delta-answers, sigma-answers, pi-answers}
+use Rattle.agreement.proofs.Matchings.{judgeMatching-iff}
+use Rattle.agreement.proofs.Agrees.{schema-agrees, delta-agrees, sigma-agrees, pi-agrees}
+use Rattle.agreement.proofs.Demand3.{demand3, provided-iff, unprovided-refused, case3-provided}
+use Rattle.migration.proofs.Demand3.{calls-demand3, calls-refuse, meanings-meet}
+use Rattle.migration.proofs.Encoding.{exports-say, results-within}
+use Rattle.promises.specs.Promises.{Demand-1, Demand-2, Demand-3, Header}
+
+pub demand-1 : Demand-1
+demand-1 = record {
+  first-refusal = refused-iff;
+  no-refusal = accepted-iff;
+  listed-refusals = refused-in;
+  check-schema = checkSchema-decided;
+  check-mapping = checkMapping-decided;
+  check-instance = checkInstance-decided;
+  same-path = samePath-decided;
+  delta = λ s t f j tray. delta-answer tray s t f j;
+  sigma = λ s t f i tray. sigma-answer tray s t f i;
+  pi = λ s t f i tray. pi-answer tray s t f i;
+  check-pushed = checkPushed-decided;
+  check-raw = checkRaw-decided;
+  pushed-to-raw = λ s t f i j k tray. pushedToRaw-answer tray s t f i j k;
+  raw-to-pushed = λ s t f i j k tray. rawToPushed-answer tray s t f i j k;
+  tray-kept = refused-tray;
+  tray-result = accepted-tray;
+}
+
+pub demand-2 : Demand-2
+demand-2 = record {
+  schema-agrees = schema-agrees;
+  path-answers = path-answers;
+  test-4 = schema-iff;
+  test-4-path = path-iff;
+  test-5 = loop-iff;
+  heights-exist = height-iff;
+  heights-one = height-one;
+  test-6 = λ S wf. (paths-listed S wf, (leb-true (length (allPaths (S .graph))) maxPaths, le-leb (length (allPaths (S .graph))) maxPaths));
+  refusal-6 = crowd-iff;
+  test-7 = λ S T s t f {F} e. images-iff S T F s t (mapping-sized S f e);
+  test-8 = λ S T s t f {F} e. keeps-iff S T F s t (mapping-sized S f e);
+  mapping-accepted = mapping-valid;
+  equal-images = λ v. image-chain (v .is);
+  test-9 = λ S i {I} e. links-iff kinds S I (instance-shaped S i e);
+  test-10 = λ S i {I} e. values-iff kinds S I (instance-shaped S i e);
+  test-11 = λ S i {I} e. equations-iff kinds S I (instance-shaped S i e);
+  instance-accepted = instance-accepted-iff;
+  delta-agrees = delta-agrees;
+  sigma-agrees = sigma-agrees;
+  pi-agrees = pi-agrees;
+  sigma-one = sigma-one;
+  pi-one = pi-one;
+  pi-single = pi-single;
+  delta-answers = delta-answers;
+  sigma-answers = sigma-answers;
+  pi-answers = pi-answers;
+  test-12 = even-iff;
+  test-17 = judgeMatching-iff;
+}
+
+pub demand-3 : Demand-3
+demand-3 = record {
+  of-meanings = demand3;
+  provisos = provided-iff;
+  provisos-met = (vendor, operator, vendorToOperator, run, book, case3-provided);
+  otherwise-refused = unprovided-refused;
+  of-calls = calls-demand3;
+  calls-refuse = calls-refuse;
+  meanings-meet = meanings-meet;
+}
+
+pub header : Header
+header = record { exports-say = exports-say; results-within = results-within }

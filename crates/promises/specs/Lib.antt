@@ -1,0 +1,2 @@
+-- Every promise of the library, by demand and sentence.
+pub mod Promises

@@ -1,0 +1,139 @@
+-- The promises of the three demands, of the program and of the C header, by demand and sentence; proofs/Promises.antt proves each under its name.
+-- A call is said by its meaning, a function of lists of numbers (`meaning` specs/Calls.antt). That the code answers as the meaning does is each public
+-- call's contract, one equation with no `requires` (`migration` src/checks.rt, migrate.rt, turnings.rt, printing.rt and exports.rt). The other terms
+-- stand in the specs/ of `theory` (source document 000), `meaning` (document 01), `agreement` and `migration`.
+-- By definition alone, in `meaning` specs/: the fields of sheets, refusals 1, 2 and 3, the text of push. The runs to check against: `meaning` proofs/Cases.antt.
+use Prim.Native.Nat.{ℕ, _<_, _≤_}
+use mathlib.Core.Path.{_≡_}
+use mathlib.Core.Bool.{true, false}
+use mathlib.Core.List.{List, List·Memᴰ}
+use mathlib.Core.Logic.{_↔_}
+use lib.ListN.{length, getD}
+use Rattle.bits.specs.Field.{Bytes}
+use Rattle.theory.specs.Schema.{IsSchema, IsPath, Chain}
+use Rattle.theory.specs.Instance as theory
+use Rattle.theory.specs.Instance.{Alike}
+use Rattle.theory.specs.Mapping as theoryMapping
+use Rattle.theory.specs.Mapping.{IsMapping, Even, Bijective}
+use Rattle.theory.specs.Sigma.{IsSigma}
+use Rattle.theory.specs.Pi.{IsComponent, IsPi}
+use Rattle.theory.specs.Matching.{IsMatching}
+use Rattle.meaning.specs.Lists.{sumOf}
+use Rattle.meaning.specs.Schema.{Path, path, Schema, isPath, allPaths, hasLoop, height}
+use Rattle.meaning.specs.Sheet.{faulty, sound, onSheet}
+use Rattle.meaning.specs.Formats.{Mapping, Instance, readMapping, readInstance, maxPaths, maxRows, kinds, instanceSheet, matchingSheet}
+use Rattle.meaning.specs.Views.{Shaped, schemaOf, nodeImage, edgeImage, mappingOf, count, instanceOf}
+use Rattle.meaning.specs.Judge.{isWellFormed, hasFewPaths, imagesFit, keepsEquations, linksInRange, valuesInRange, obeysEquations, judgePath, judgeSchema, judgeMapping, judgeInstance}
+use Rattle.meaning.specs.Evenness.{even}
+use Rattle.meaning.specs.Pi.{pi}
+use Rattle.meaning.specs.Matching.{judgeMatching}
+use Rattle.meaning.specs.Calls.{Outcome, refused, accepted, checkSchema, checkMapping, checkInstance, samePath, Migrated, deltaTables, sigmaTables, piTables, sheetOf, sides, rawSheet, pushedSheet, checkPushed, checkRaw, pushedToRaw, rawToPushed, inTray}
+use Rattle.agreement.specs.Paths.{WellFormed, SameStarts, Loop, IsHeight, ListsPaths, Crowded}
+use Rattle.agreement.specs.Tests.{Refusal, Tests, FailsAt, Pass, Decides}
+use Rattle.agreement.specs.CallTests.{checkSchemaTests, checkMappingTests, checkInstanceTests, samePathTests, deltaTests, sigmaTests, piTests, pushedTests, rawTests, trayTests, sheetTests, Result}
+use Rattle.agreement.specs.Valid.{ValidMapping, ValidInstance, ImagesFit, KeepsEquations, LinksIn, ValuesIn, ObeysEquations}
+use Rattle.agreement.specs.Agrees.{SchemaAgrees, PathAnswers, Inputs, DeltaAgrees, DeltaAnswers, SigmaAgrees, SigmaAnswers, PiAgrees, PiAnswers}
+use Rattle.agreement.specs.Demand3.{Accepts, meaningAnswers, Provided, Clauses, AllRefuse}
+use Rattle.migration.specs.Demand3.{Calls, MeetsContracts, answers, meaningCalls}
+use Rattle.migration.specs.Encoding.{ExportsSay, ResultsWithin}
+
+-- ---- Demand 1
+
+pub record Demand-1 : Type 1 where
+  -- "the call ends with one result, or with one numbered refusal and the sheet's place, the number being the first that applies in a fixed order":
+  -- where tests decide an outcome, it is refused exactly with the number and the place of the first test that fails, and accepted exactly where
+  -- all pass; no other refusal occurs
+  pub first-refusal : {A : Type 0} {rs : List Refusal} {t : Tests A rs} {o : Outcome A} → Decides t o
+      → (r : Refusal) → (o ≡ refused (r .0) (r .1)) ↔ ((i : ℕ) × FailsAt t i × (getD rs i (0, 0) ≡ r))
+  pub no-refusal : {A : Type 0} {rs : List Refusal} {t : Tests A rs} {o : Outcome A} → Decides t o → (a : A) → (o ≡ accepted a) ↔ Pass t a
+  pub listed-refusals : {A : Type 0} {rs : List Refusal} {t : Tests A rs} {o : Outcome A} → Decides t o → (r : Refusal) → o ≡ refused (r .0) (r .1) → List·Memᴰ r rs
+  -- and each call is decided by its tests, which stand in the order of document 01 (`agreement` specs/CallTests.antt)
+  pub check-schema : (s : List ℕ) → Decides (checkSchemaTests s) (checkSchema s)
+  pub check-mapping : (s t f : List ℕ) → Decides (checkMappingTests s t f) (checkMapping s t f)
+  pub check-instance : (s i : List ℕ) → Decides (checkInstanceTests s i) (checkInstance s i)
+  pub same-path : (s p q : List ℕ) → Decides (samePathTests s p q) (samePath s p q)
+  pub delta : (s t f j tray : List ℕ) → Decides (sheetTests tray (deltaTests s t f j)) (inTray tray (sheetOf (deltaTables s t f j)) .answer)
+  pub sigma : (s t f i tray : List ℕ) → Decides (sheetTests tray (sigmaTests s t f i)) (inTray tray (sheetOf (sigmaTables s t f i)) .answer)
+  pub pi : (s t f i tray : List ℕ) → Decides (sheetTests tray (piTests s t f i)) (inTray tray (sheetOf (piTables s t f i)) .answer)
+  pub check-pushed : (s t f i j k : List ℕ) → Decides (pushedTests s t f i j k (λ x l. tt)) (checkPushed s t f i j k)
+  pub check-raw : (s t f i j k : List ℕ) → Decides (rawTests s t f i j k (λ x l. tt)) (checkRaw s t f i j k)
+  pub pushed-to-raw : (s t f i j k tray : List ℕ) → Decides (trayTests tray (pushedTests s t f i j k rawSheet)) (inTray tray (pushedToRaw s t f i j k) .answer)
+  pub raw-to-pushed : (s t f i j k tray : List ℕ) → Decides (trayTests tray (rawTests s t f i j k pushedSheet)) (inTray tray (rawToPushed s t f i j k) .answer)
+  -- "a refused call changes no lent byte": no byte of the tray; sheets are lent to be read only
+  pub tray-kept : (tray : List ℕ) (o : Outcome (List ℕ)) {n place : ℕ} → inTray tray o .answer ≡ refused n place → inTray tray o .tray ≡ tray
+  -- "An accepted result gives its byte length; bytes beyond it keep their values"
+  pub tray-result : (tray : List ℕ) (o : Outcome (List ℕ)) {n : ℕ} → inTray tray o .answer ≡ accepted n → Result tray o n
+
+-- ---- Demand 2
+
+pub record Demand-2 : Type 1 where
+  -- "Path equality": of an accepted schema, with first paths and heights; and the answers of the path question
+  pub schema-agrees : (s : List ℕ) {S : Schema} → judgeSchema s ≡ sound S → SchemaAgrees S
+  pub path-answers : (s p q : List ℕ) {S : Schema} {P Q : Path} → judgeSchema s ≡ sound S → judgePath (S .graph) p ≡ sound P → judgePath (S .graph) q ≡ sound Q
+      → PathAnswers s p q S P Q
+  -- "the check of schemas": 4 is passed exactly by the theory's schemas whose equations have one start on both sides, and by the theory's paths
+  pub test-4 : (S : Schema) → (isWellFormed S ≡ true) ↔ (IsSchema (schemaOf S) × SameStarts S)
+  pub test-4-path : (S : Schema) → isWellFormed S ≡ true → (n : ℕ) (p : List ℕ) → (isPath (S .graph) (path n p) ≡ true) ↔ IsPath (schemaOf S) n p
+  -- 5 is given exactly for a loop; exactly without one there are heights, and no others than `height`
+  pub test-5 : (S : Schema) → isWellFormed S ≡ true → (hasLoop (S .graph) ≡ true) ↔ Loop (schemaOf S)
+  pub heights-exist : (S : Schema) → isWellFormed S ≡ true → (hasLoop (S .graph) ≡ false) ↔ ((h : ℕ → ℕ) × IsHeight (S .graph) h)
+  pub heights-one : (S : Schema) → isWellFormed S ≡ true → {h : ℕ → ℕ} → IsHeight (S .graph) h → hasLoop (S .graph) ≡ false → (n : ℕ) → n < S .graph .nodes → h n ≡ height (S .graph) n
+  -- 6: of a well-formed schema without a loop the list of all paths is complete, and 6 is given exactly where it is longer than 256
+  pub test-6 : (S : Schema) → WellFormed S → ListsPaths S × ((hasFewPaths (S .graph) ≡ true) ↔ (length (allPaths (S .graph)) ≤ maxPaths))
+  pub refusal-6 : (s : List ℕ) → (judgeSchema s ≡ faulty 6) ↔ ((S : Schema) × Crowded s S)
+  -- the check of "mappings": 7, then 8, of a sheet that reads as F; one that passes respects all path equalities, and not the equations alone
+  pub test-7 : (S T : Schema) → WellFormed S → WellFormed T → (f : List ℕ) {F : Mapping} → onSheet (readMapping S) f ≡ sound F → (imagesFit S T F ≡ true) ↔ ImagesFit (mappingOf S T F)
+  pub test-8 : (S T : Schema) → WellFormed S → WellFormed T → (f : List ℕ) {F : Mapping} → onSheet (readMapping S) f ≡ sound F
+      → imagesFit S T F ≡ true → (keepsEquations S T F ≡ true) ↔ KeepsEquations (mappingOf S T F)
+  pub mapping-accepted : (s t f : List ℕ) {S T : Schema} {F : Mapping} → judgeSchema s ≡ sound S → judgeSchema t ≡ sound T → judgeMapping S T f ≡ sound F → ValidMapping S T F
+  pub equal-images : {S T : Schema} {F : Mapping} → ValidMapping S T F → (n : ℕ) {p q : List ℕ} → Chain (schemaOf S) n p q → IsPath (schemaOf S) n p
+      → Chain (schemaOf T) (nodeImage F n) (theoryMapping.image (edgeImage F) p) (theoryMapping.image (edgeImage F) q)
+  -- the check of "tables": 9, 10 and 11, of a sheet that reads as I; accepted are exactly the whole sheets of valid instances
+  pub test-9 : (S : Schema) (i : List ℕ) {I : Instance} → onSheet (readInstance S) i ≡ sound I → (linksInRange S I ≡ true) ↔ LinksIn (schemaOf S) (instanceOf I)
+  pub test-10 : (S : Schema) (i : List ℕ) {I : Instance} → onSheet (readInstance S) i ≡ sound I → (valuesInRange kinds S I ≡ true) ↔ ValuesIn kinds (schemaOf S) (instanceOf I)
+  pub test-11 : (S : Schema) (i : List ℕ) {I : Instance} → onSheet (readInstance S) i ≡ sound I → (obeysEquations S I ≡ true) ↔ ObeysEquations (schemaOf S) (instanceOf I)
+  pub instance-accepted : (S : Schema) (i : List ℕ) → Bytes i → ((I : Instance) × (judgeInstance S i ≡ sound I)) ↔ ((I : Instance) × ValidInstance S I × (i ≡ instanceSheet I))
+  -- "the migrated tables of Delta, Sigma and Pi" are the theory's, valid, and are read back from their own sheets; "every migrated table obeys all
+  -- path equations of its schema"
+  pub delta-agrees : (s t f j : List ℕ) {M : Migrated} → deltaTables s t f j ≡ accepted M → DeltaAgrees s t f j M
+  pub sigma-agrees : (s t f i : List ℕ) {M : Migrated} → sigmaTables s t f i ≡ accepted M → SigmaAgrees s t f i M
+  pub pi-agrees : (s t f i : List ℕ) {M : Migrated} → piTables s t f i ≡ accepted M → PiAgrees s t f i M
+  -- no other tables are Sigma's or Pi's
+  pub sigma-one : {F : theoryMapping.Mapping} → IsMapping F → Even F → {I P Q : theory.Instance ℕ} → IsSigma F I P → IsSigma F I Q → Alike (F .T) P Q
+  pub pi-one : {F : theoryMapping.Mapping} {I P Q : theory.Instance ℕ} → IsMapping F → Bijective F → IsPi F I P → IsPi F I Q → Alike (F .T) P Q
+  -- "Without components there is exactly 1 row"
+  pub pi-single : {S T : Schema} {F : Mapping} → ValidMapping S T F → (I : Instance) (d : ℕ) → d < T .graph .nodes
+      → ((k : ℕ × List ℕ) → IsComponent (mappingOf S T F) d k → ⊥) → count (pi S T F I) d ≡ 1
+  -- "nothing is refused outside the listed conditions": on accepted sheets, 15 of Delta, 12 of Sigma (and of the matching calls), 13, 14 and 15 of Pi
+  pub delta-answers : (s t f j : List ℕ) {S T : Schema} {F : Mapping} {J : Instance} → Inputs s t f j S T T F J → DeltaAnswers s t f j (mappingOf S T F) (instanceOf J)
+  pub sigma-answers : (s t f i : List ℕ) {S T : Schema} {F : Mapping} {I : Instance} → Inputs s t f i S T S F I → SigmaAnswers s t f i (mappingOf S T F)
+  pub pi-answers : (s t f i : List ℕ) {S T : Schema} {F : Mapping} {I : Instance} → Inputs s t f i S T S F I → PiAnswers s t f i (mappingOf S T F) (instanceOf I)
+  pub test-12 : {S T : Schema} {F : Mapping} → ValidMapping S T F → (even S T F ≡ true) ↔ Even (mappingOf S T F)
+  -- 17: "a list is a matching if it is the whole sheet of one"
+  pub test-17 : (S : Schema) (A B : Instance) → Shaped S A → sumOf (B .counts) ≤ maxRows → (k : List ℕ) → Bytes k
+      → ((l : List ℕ) × (judgeMatching S A B k ≡ sound l)) ↔ ((l : List ℕ) × IsMatching (schemaOf S) (instanceOf A) (instanceOf B) l × (k ≡ matchingSheet l))
+
+-- ---- Demand 3
+
+pub record Demand-3 : Type 1 where
+  -- "each checker accepts a list exactly when it is a matching of its side; each turning takes exactly the matchings of the side it starts from and
+  -- turns each into one matching of the other side; each matching there comes from exactly one here; turning the result back gives the first list
+  -- again, byte for byte; and each raw row meets the same book row on both sides": one clause each (`agreement` specs/Demand3.antt), under the provisos
+  pub of-meanings : {s t f i j : List ℕ} (x : Provided s t f i j) → Clauses x (meaningAnswers s t f i j)
+  -- the provisos hold exactly where the tests before the matching sheet are passed; they can be met; where one fails all four calls refuse
+  pub provisos : (s t f i j : List ℕ) → Provided s t f i j ↔ Accepts (sides s t f i j)
+  pub provisos-met : (s : List ℕ) × (t : List ℕ) × (f : List ℕ) × (i : List ℕ) × (j : List ℕ) × Provided s t f i j
+  pub otherwise-refused : (s t f i j : List ℕ) → (Provided s t f i j → ⊥) → AllRefuse (meaningAnswers s t f i j)
+  -- the same of the public calls: of whatever meets their contracts, asked of all lists of numbers; of those that are no bytes, which nobody can
+  -- lend, take the answers of the meanings, which meet the contracts too
+  pub of-calls : {c : Calls} → MeetsContracts c → {s t f i j : List ℕ} (x : Provided s t f i j) → Clauses x (answers c s t f i j)
+  pub calls-refuse : {c : Calls} → MeetsContracts c → (s t f i j : List ℕ) → (Provided s t f i j → ⊥) → AllRefuse (answers c s t f i j)
+  pub meanings-meet : MeetsContracts meaningCalls
+
+-- ---- The C header
+
+pub record Header : Type 0 where
+  -- the number that an export gives by its contract, taken apart as include/migration.h does, is the call's outcome
+  pub exports-say : ExportsSay
+  -- a tray of the header's byte lengths holds every result
+  pub results-within : ResultsWithin

@@ -1,0 +1,1 @@
+// Every promise of the library, gathered: specs/Promises.antt. No code.
