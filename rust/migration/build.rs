@@ -3,7 +3,8 @@
 //! It is taken from the folder that MIGRATION_ARCHIVE_DIR names; else from
 //! `target/staticlib` of the repository, where `.ci/archive` writes it if it is
 //! missing or older than the code.  That proves what has changed: minutes from
-//! nothing.
+//! nothing.  A crate that depends on this one is told the archive's path, as
+//! DEP_MIGRATION_ARCHIVE.
 
 use std::path::{Path, PathBuf};
 use std::process::Command;
@@ -15,7 +16,9 @@ fn main() {
         Some(folder) => PathBuf::from(folder),
         None => archive_of_the_repository(),
     };
-    println!("cargo:rerun-if-changed={}", folder.join("libmigration.a").display());
+    let archive = folder.join("libmigration.a");
+    println!("cargo:rerun-if-changed={}", archive.display());
+    println!("cargo:archive={}", archive.display());
     println!("cargo:rustc-link-search=native={}", folder.display());
     println!("cargo:rustc-link-lib=static=migration");
 }

@@ -1,0 +1,27 @@
+//! The header's constants for refusals, by document 01's words.
+
+use reference::refusal;
+
+/// Names and the reference's numbers of them.
+macro_rules! numbers {
+    ($($name:ident)*) => { [$((stringify!($name), refusal::$name)),*] };
+}
+
+/// Document 01's words "cut" to "no match" as they stand in names of constants,
+/// each with its number.
+pub const REFUSALS: [(&str, u8); 17] = numbers! {
+    CUT TAIL COUNT STRAY RING CROWD MISFIT BROKEN_RULE DANGLING OFF_SCALE BENT_ROW UNEVEN UNPAIRED
+    WIDE OVERFULL SMALL_TRAY NO_MATCH
+};
+
+/// The header's constant for a refusal.
+pub fn constant(number: u8) -> Option<String> {
+    let found = REFUSALS.iter().find(|(_, of)| *of == number);
+    found.map(|(name, _)| format!("MIGRATION_{name}"))
+}
+
+/// The most bytes of an instance sheet.
+pub const INSTANCE_BYTES: &str = "MIGRATION_INSTANCE_BYTES";
+
+/// The most bytes of a matching sheet.
+pub const MATCHING_BYTES: &str = "MIGRATION_MATCHING_BYTES";

@@ -1,0 +1,87 @@
+//! Trials of the header's two sizes: sheets of just so many bytes, and trays.
+
+use crate::arguments::TRAY;
+use crate::constants::{INSTANCE_BYTES, MATCHING_BYTES};
+use crate::trials::Trial;
+use reference::plain::{Attribute, Instance, Schema};
+use vectors::build::{graph, identity, instance, list, mapping};
+use vectors::call::{Call, Case};
+
+/// Trials of both sizes.
+pub fn longest() -> Vec<Trial> {
+    [longest_instances(), longest_lists()].concat()
+}
+
+/// The schema whose instances are the longest: 16 nodes, 32 edges and 16
+/// attributes, all of one table.
+fn widest() -> Schema {
+    let attributes = vec![Attribute { node: 0, kind: 0 }; 16];
+    Schema { attributes, ..graph(16, &[(0, 1); 32]) }
+}
+
+/// An instance of this schema with so many rows in its first two tables.
+fn rows(first: usize, second: usize) -> Instance {
+    let rows = [vec![first, second], vec![0; 14]].concat();
+    Instance { rows, links: vec![vec![0; first]; 32], values: vec![vec![0; first]; 16] }
+}
+
+/// A sheet, the sheet without its last byte, and with a byte more; and how much
+/// longer each is.
+fn around(sheet: &[u8]) -> [(&'static str, i64, Vec<u8>); 3] {
+    [
+        ("whole", 0, sheet.to_vec()),
+        ("cut", -1, sheet[..sheet.len() - 1].to_vec()),
+        ("with a byte more", 1, [sheet, &[0]].concat()),
+    ]
+}
+
+/// "An instance sheet is at most 51,220 bytes."  One of that length is read to
+/// its end and then sent back: 512 rows in one table leave none that its links
+/// could lead to.  With such a row a sheet has at most 51,120 bytes, and that is
+/// the longest result.
+fn longest_instances() -> Vec<Trial> {
+    let schema = widest().to_sheet();
+    let mut trials = Vec::new();
+    for (what, more, sheet) in around(&rows(512, 0).to_sheet()) {
+        let name = format!("the longest instance sheet, {what}");
+        let case = Case::new(name, Call::CheckInstance, vec![schema.clone(), sheet]);
+        trials.push(Trial::new(case).sized(2, INSTANCE_BYTES, more));
+    }
+    let (same, run) = (identity(&widest()).to_sheet(), rows(511, 1).to_sheet());
+    let (longest, needed) = (rows(512, 0).to_sheet().len(), run.len());
+    let sheets = vec![schema.clone(), schema, same, run];
+    let pulled = |name: &str, tray: usize| {
+        Trial::new(Case::new(name, Call::Delta, sheets.clone()).with_tray(tray))
+    };
+    trials.push(pulled("the longest result", longest).sized(TRAY, INSTANCE_BYTES, 0));
+    trials.push(pulled("the longest result, a tray of a byte less", needed - 1));
+    trials
+}
+
+/// A list of 512 rows for each call that takes one, and trays for its turning.
+fn longest_lists() -> Vec<Trial> {
+    let partners = list(&(0..512).map(|row| row % 256).collect::<Vec<_>>());
+    let mut trials = Vec::new();
+    for call in [Call::CheckPushed, Call::CheckRaw, Call::PushedToRaw, Call::RawToPushed] {
+        for (what, more, list) in around(&partners) {
+            let trial = full(call, &format!("the longest list, {what}"), list, partners.len());
+            let trial = trial.sized(6, MATCHING_BYTES, more);
+            trials.push(if call.has_tray() { trial.sized(TRAY, MATCHING_BYTES, 0) } else { trial });
+        }
+        if call.has_tray() {
+            let name = "the longest list, a tray of a byte less";
+            let trial = full(call, name, partners.clone(), partners.len() - 1);
+            trials.push(trial.sized(TRAY, MATCHING_BYTES, -1));
+        }
+    }
+    trials
+}
+
+/// A call with a list for a run of 512 rows.
+fn full(call: Call, name: &str, list: Vec<u8>, tray: usize) -> Trial {
+    let (s, t, f) = (graph(2, &[]), graph(1, &[]), mapping(&[0, 0], &[]));
+    let (run, book) = (instance(&[256, 256], &[]), instance(&[256], &[]));
+    let sheets =
+        vec![s.to_sheet(), t.to_sheet(), f.to_sheet(), run.to_sheet(), book.to_sheet(), list];
+    Trial::new(Case::new(name, call, sheets).with_tray(tray))
+}
