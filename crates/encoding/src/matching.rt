@@ -3,6 +3,7 @@ use crate::write_column;
 use bits::reader::ends_at;
 use bits::reader::lacks_at;
 use instance::decode::read_column;
+use schema::faults;
 ghost use mathlib.Core.Path.{_≡_};
 ghost use Prim.Native.Nat.{_*_, _≤_};
 ghost use lib.ListN.{length};
@@ -19,13 +20,13 @@ pub fn read_matching(s: &[u8], n: usize, out: &mut [u32]) -> u8
     ensures { λ r. ⌜ judgedPartners r n (now (out .exit)) ≡ onSheet (readPartners n) (now (s .entry)) ⌝ }
 {
     if lacks_at(s, 0, 9 * n) {
-        return 1;
+        return faults::CUT;
     }
     read_column(s, 0, 9, n, &mut *out, 0);
     if ends_at(s, 9 * n) {
         return 0;
     }
-    2
+    faults::TAIL
 }
 
 // The byte length of a matching sheet of n rows.

@@ -45,10 +45,17 @@ emptyInstance number = record { fault = number; counts = replicate 16 0 }
 
 -- ---- what a call is lent
 
+-- a column of links for each edge, and one of values for each attribute, that a schema can have
+abbrev pub maxLinks : ℕ
+maxLinks = meaning.maxEdges * meaning.maxRows
+
+abbrev pub maxValues : ℕ
+maxValues = meaning.maxAttributes * meaning.maxRows
+
 -- working arrays for the instances of every schema
 pub record Room (links values : List ℕ) : Type 0 where
-  pub for-links : length links ≡ 16384
-  pub for-values : length values ≡ 8192
+  pub for-links : length links ≡ maxLinks
+  pub for-values : length values ≡ maxValues
 
 -- working arrays for the instances of a schema
 pub record RoomFor (t : Schema) (links values : List ℕ) : Type 0 where

@@ -4,13 +4,14 @@ use bits::reader::ends_at;
 use bits::reader::field_at;
 use bits::reader::lacks_at;
 use schema::Schema;
+use schema::faults;
 ghost use mathlib.Core.Path.{_≡_};
 ghost use Prim.Native.Nat.{_+_, _*_, _≤_, _<_};
 ghost use lib.ListN.{length, getD};
 ghost use Rattle.bits.specs.Field.{field, Within};
 ghost use Rattle.meaning.specs.Lists.{sumOf};
 ghost use Rattle.meaning.specs.Sheet.{onSheet, judged};
-ghost use Rattle.meaning.specs.Formats.{readTables, readInstance};
+ghost use Rattle.meaning.specs.Formats.{maxNodes, maxRows, readTables, readInstance};
 ghost use Rattle.schema.specs.Decoded.{Near, schemaOf, frontOf};
 ghost use Rattle.schema.specs.Judged.{Sound};
 ghost use Rattle.instance.specs.Decoded.{countsIn, rowsOf, Fields, Columns, ColumnsTaken, RoomFor, Says};
@@ -53,7 +54,7 @@ pub fn read_column(s: &[u8], at: usize, width: usize, n: usize, out: &mut [u32],
 
 // The leading counts of n tables.
 fn read_counts(s: &[u8], n: usize) -> [u32; Schema::NODES]
-    requires { ⌜ (n ≤ 16) × (10 * n ≤ 8 * length (now s)) ⌝ }
+    requires { ⌜ (n ≤ maxNodes) × (10 * n ≤ 8 * length (now s)) ⌝ }
     ensures { λ r. ⌜ frontOf n r ≡ countsIn n (now (s .entry)) ⌝ }
 {
     let mut counts = [0u32; Schema::NODES];
@@ -63,7 +64,7 @@ fn read_counts(s: &[u8], n: usize) -> [u32; Schema::NODES]
 
 // The rows of the first n tables together.
 pub fn total(counts: &[u32], n: usize) -> usize
-    requires { ⌜ (n ≤ 16) × (n ≤ length (now counts)) ⌝ }
+    requires { ⌜ (n ≤ maxNodes) × (n ≤ length (now counts)) ⌝ }
     ensures { λ r. ⌜ r ≡ sumOf (frontOf n (now (counts .entry))) ⌝ }
 {
     let mut sum: usize = 0;
@@ -99,7 +100,7 @@ fn read_columns(
     counts: &[u32],
     out: &mut [u32],
 ) -> ColumnsRead
-    requires { ⌜ (width ≤ 32) × Near (now s) at (16384 * n) × Columns n (now home) (now counts) × (512 * n ≤ length (now out)) ⌝ }
+    requires { ⌜ (width ≤ 32) × Near (now s) at (16384 * n) × Columns n (now home) (now counts) × (maxRows * n ≤ length (now out)) ⌝ }
     ensures { λ r. ⌜ ColumnsTaken (now (s .entry)) at width n (now (home .entry)) (now (counts .entry)) r (now (out .exit)) ⌝ }
 {
     let mut k = 0;
@@ -130,7 +131,7 @@ fn decode_tables(
     links: &mut [u32],
     values: &mut [u32],
 ) -> Instance
-    requires { ⌜ Sound schema × RoomFor schema (now links) (now values) × (10 * schema .graph .nodes ≤ 8 * length (now s)) × (sumOf (frontOf (schema .graph .nodes) counts) ≤ 512) ⌝ }
+    requires { ⌜ Sound schema × RoomFor schema (now links) (now values) × (10 * schema .graph .nodes ≤ 8 * length (now s)) × (sumOf (frontOf (schema .graph .nodes) counts) ≤ maxRows) ⌝ }
     ensures { λ r. ⌜ Says schema r (now (links .exit)) (now (values .exit)) (judged (readTables (schemaOf schema) (frontOf (schema .graph .nodes) counts) (now (s .entry)) (10 * schema .graph .nodes))) ⌝ }
 {
     let graph = schema.graph;
@@ -146,7 +147,7 @@ fn decode_tables(
         &mut *links,
     );
     if a.cut {
-        return Instance::faulty(1);
+        return Instance::faulty(faults::CUT);
     }
     let b = read_columns(
         s,
@@ -158,7 +159,7 @@ fn decode_tables(
         &mut *values,
     );
     if b.cut {
-        return Instance::faulty(1);
+        return Instance::faulty(faults::CUT);
     }
     if ends_at(s, b.next) {
         return Instance {
@@ -166,7 +167,7 @@ fn decode_tables(
             counts: counts,
         };
     }
-    Instance::faulty(2)
+    Instance::faulty(faults::TAIL)
 }
 
 // What an instance sheet says, or the number with which it is sent back before any test of its sense.
@@ -177,11 +178,11 @@ pub fn decode_instance(schema: Schema, s: &[u8], links: &mut [u32], values: &mut
     let graph = schema.graph;
     let nodes = graph.nodes;
     if lacks_at(s, 0, 10 * nodes) {
-        return Instance::faulty(1);
+        return Instance::faulty(faults::CUT);
     }
     let counts = read_counts(s, nodes);
     if total(&counts, nodes) <= Instance::ROWS {
         return decode_tables(schema, s, counts, &mut *links, &mut *values);
     }
-    Instance::faulty(3)
+    Instance::faulty(faults::COUNT)
 }

@@ -9,6 +9,7 @@ ghost use mathlib.Core.List.{[]};
 ghost use Prim.Native.Nat.{_*_, _≤_};
 ghost use lib.ListN.{length};
 ghost use Rattle.theory.specs.Instance as theory;
+ghost use Rattle.meaning.specs.Formats.{maxRows};
 ghost use Rattle.meaning.specs.Judge.{linksInRange, obeysEquations};
 ghost use Rattle.schema.specs.Decoded.{pathOf, schemaOf, frontOf};
 ghost use Rattle.schema.specs.Judged.{Sound};
@@ -63,7 +64,7 @@ fn paths_agree(links: &[u32], a: Path, b: Path, rows: usize) -> bool
 
 // Refusal 11 (bent row).
 pub fn obeys_equations(schema: Schema, instance: Instance, links: &[u32]) -> bool
-    requires { ⌜ Sound schema × Limits schema instance × (512 * schema .graph .edges ≤ length (now links)) × (linksInRange (schemaOf schema) (tablesOf schema instance (now links) []) ≡ true) ⌝ }
+    requires { ⌜ Sound schema × Limits schema instance × (maxRows * schema .graph .edges ≤ length (now links)) × (linksInRange (schemaOf schema) (tablesOf schema instance (now links) []) ≡ true) ⌝ }
     ensures { λ r. ⌜ r ≡ obeysEquations (schemaOf schema) (tablesOf schema instance (now (links .entry)) []) ⌝ }
 {
     let n = schema.equations;

@@ -7,6 +7,7 @@ pub mod range;
 pub mod tables;
 
 use schema::Schema;
+use schema::faults;
 ghost use mathlib.Core.Path.{_≡_};
 ghost use Rattle.meaning.specs.Judge.{testInstance, judgeInstance};
 ghost use Rattle.schema.specs.Decoded.{schemaOf};
@@ -71,11 +72,11 @@ fn tested(schema: Schema, instance: Instance, links: &[u32], values: &[u32]) -> 
             if follow::obeys_equations(schema, instance, links) {
                 return instance;
             }
-            return Instance::faulty(11);
+            return Instance::faulty(faults::BENT_ROW);
         }
-        return Instance::faulty(10);
+        return Instance::faulty(faults::OFF_SCALE);
     }
-    Instance::faulty(9)
+    Instance::faulty(faults::DANGLING)
 }
 
 // An instance sheet of a schema judged: what it says, or the first number that applies to it.

@@ -11,7 +11,7 @@ ghost use lib.Dec.{ltb};
 ghost use lib.ListN.{length};
 ghost use Rattle.theory.specs.Numbering.{tabulate};
 ghost use Rattle.meaning.specs.Lists.{all};
-ghost use Rattle.meaning.specs.Formats.{inRange};
+ghost use Rattle.meaning.specs.Formats.{maxRows, inRange};
 ghost use Rattle.meaning.specs.Judge.{linksInRange, valuesInRange};
 ghost use Rattle.schema.specs.Decoded.{schemaOf};
 ghost use Rattle.schema.specs.Judged.{Sound};
@@ -51,7 +51,7 @@ fn column_in_range(kinds: &[u32], kind: usize, l: &[u32], base: usize, n: usize)
 
 // Whether the links along each of n edges are rows of its target.
 fn columns_below(n: usize, source: &[u8], target: &[u8], counts: &[u32], links: &[u32]) -> bool
-    requires { ⌜ Columns n (now source) (now counts) × Columns n (now target) (now counts) × (512 * n ≤ length (now links)) ⌝ }
+    requires { ⌜ Columns n (now source) (now counts) × Columns n (now target) (now counts) × (maxRows * n ≤ length (now links)) ⌝ }
     ensures { λ r. ⌜ r ≡ all (linkTest (now (source .entry)) (now (target .entry)) (now (counts .entry)) (now (links .entry))) (tabulate n (λ e. e)) ⌝ }
 {
     let mut e = 0;
@@ -76,7 +76,7 @@ fn columns_in_range(
     values: &[u32],
     kinds: &[u32],
 ) -> bool
-    requires { ⌜ Columns n (now node) (now counts) × (n ≤ length (now kind)) × (512 * n ≤ length (now values)) ⌝ }
+    requires { ⌜ Columns n (now node) (now counts) × (n ≤ length (now kind)) × (maxRows * n ≤ length (now values)) ⌝ }
     ensures { λ r. ⌜ r ≡ all (valueTest (now (node .entry)) (now (kind .entry)) (now (counts .entry)) (now (values .entry)) (now (kinds .entry))) (tabulate n (λ a. a)) ⌝ }
 {
     let mut a = 0;
@@ -93,7 +93,7 @@ fn columns_in_range(
 
 // Refusal 9 (dangling).
 pub fn links_in_range(schema: Schema, instance: Instance, links: &[u32]) -> bool
-    requires { ⌜ Sound schema × Limits schema instance × (512 * schema .graph .edges ≤ length (now links)) ⌝ }
+    requires { ⌜ Sound schema × Limits schema instance × (maxRows * schema .graph .edges ≤ length (now links)) ⌝ }
     ensures { λ r. ⌜ r ≡ linksInRange (schemaOf schema) (tablesOf schema instance (now (links .entry)) []) ⌝ }
 {
     let graph = schema.graph;
@@ -105,7 +105,7 @@ pub fn links_in_range(schema: Schema, instance: Instance, links: &[u32]) -> bool
 
 // Refusal 10 (off scale).
 pub fn values_in_range(schema: Schema, instance: Instance, values: &[u32], kinds: &[u32]) -> bool
-    requires { ⌜ Sound schema × Limits schema instance × (512 * schema .attributes ≤ length (now values)) ⌝ }
+    requires { ⌜ Sound schema × Limits schema instance × (maxRows * schema .attributes ≤ length (now values)) ⌝ }
     ensures { λ r. ⌜ r ≡ valuesInRange (now (kinds .entry)) (schemaOf schema) (tablesOf schema instance [] (now (values .entry))) ⌝ }
 {
     let node = schema.node;

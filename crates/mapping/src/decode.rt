@@ -6,6 +6,7 @@ use bits::reader::lacks_at;
 use schema::Schema;
 use schema::decode::column;
 use schema::decode::small;
+use schema::faults;
 ghost use Prim.Native.Nat.{_*_, _≤_};
 ghost use Rattle.meaning.specs.Sheet.{onSheet};
 ghost use Rattle.meaning.specs.Formats.{readMapping};
@@ -97,16 +98,16 @@ pub fn decode_mapping(s: Schema, sheet: &[u8]) -> Mapping
     let attributes = s.attributes;
     let first = 4 * nodes;
     if lacks_at(sheet, 0, first) {
-        return Mapping::faulty(1);
+        return Mapping::faulty(faults::CUT);
     }
     let images = read_images(sheet, first, s.graph.edges);
     if images.cut {
-        return Mapping::faulty(1);
+        return Mapping::faulty(faults::CUT);
     }
     let middle = images.next;
     let last = 4 * attributes;
     if lacks_at(sheet, middle, last) {
-        return Mapping::faulty(1);
+        return Mapping::faulty(faults::CUT);
     }
     if ends_after(sheet, middle, last) {
         let node = column(sheet, 0, 4, 4, nodes);
@@ -120,5 +121,5 @@ pub fn decode_mapping(s: Schema, sheet: &[u8]) -> Mapping
             path: [0u8; Mapping::PATHS],
         };
     }
-    Mapping::faulty(2)
+    Mapping::faulty(faults::TAIL)
 }

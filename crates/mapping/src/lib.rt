@@ -8,6 +8,7 @@ pub mod images;
 use paths::Paths;
 use schema::Path;
 use schema::Schema;
+use schema::faults;
 ghost use mathlib.Core.Path.{_≡_};
 ghost use Rattle.meaning.specs.Judge.{testMapping, judgeMapping};
 ghost use Rattle.schema.specs.Decoded.{schemaOf};
@@ -88,9 +89,9 @@ fn tested(s: Schema, t: Schema, source_paths: Paths, target_paths: Paths, f: Map
                 path: path,
             };
         }
-        return Mapping::faulty(8);
+        return Mapping::faulty(faults::BROKEN_RULE);
     }
-    Mapping::faulty(7)
+    Mapping::faulty(faults::MISFIT)
 }
 
 // A mapping sheet judged, between two schemas with their tables of paths: what it says, or the first number that applies to it.

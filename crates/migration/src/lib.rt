@@ -34,6 +34,24 @@ pub struct Refusal {
 }
 
 impl Refusal {
+    // A mapping that is not even.
+    pub const UNEVEN: u8 = 12;
+
+    // An attribute mapping that is no bijection.
+    pub const UNPAIRED: u8 = 13;
+
+    // A table of Pi with too many components.
+    pub const WIDE: u8 = 14;
+
+    // A migrated instance with too many rows.
+    pub const OVERFULL: u8 = 15;
+
+    // A tray with too few bytes for the result.
+    pub const SMALL_TRAY: u8 = 16;
+
+    // A list that is not a matching.
+    pub const NO_MATCH: u8 = 17;
+
     // This refusal or, where it is none, the next.
     fn or(self, number: u8, place: u8) -> Refusal
         ensures { λ r. ⌜ r ≡ orNext self (record { number = number; place = place }) ⌝ }

@@ -43,7 +43,7 @@ fn judge_matching(
         if is_matching(schema, a, a_links, a_values, b, b_links, b_values, &*list) {
             return 0;
         }
-        return 17;
+        return Refusal::NO_MATCH;
     }
     fault
 }

@@ -272,9 +272,9 @@ fn unjoinable(opened: Opened, k: Components) -> u8
         if has_few_components(&count, target.graph.nodes) {
             return 0;
         }
-        return 14;
+        return Refusal::WIDE;
     }
-    13
+    Refusal::UNPAIRED
 }
 
 // Pi's tables of a run along a mapping that passed both tests.
@@ -318,7 +318,7 @@ fn join_run(
     }
     Migrated {
         refusal: Refusal {
-            number: 15,
+            number: Refusal::OVERFULL,
             place: 0,
         },
         schema: target,

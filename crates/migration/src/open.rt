@@ -74,5 +74,5 @@ pub(crate) fn uneven(opened: Opened) -> u8
     ) {
         return 0;
     }
-    12
+    Refusal::UNEVEN
 }

@@ -35,7 +35,7 @@ pub(crate) fn overfull(schema: Schema, tables: Instance) -> u8
     if total(&counts, graph.nodes) <= Instance::ROWS {
         return 0;
     }
-    15
+    Refusal::OVERFULL
 }
 
 // Writes the sheet of a migrated instance into a tray, or leaves the tray as it is.
@@ -51,7 +51,7 @@ pub(crate) fn write_migrated(m: Migrated, links: &[u32], values: &[u32], tray: &
             return Written::Bytes(write_instance(&mut *tray, schema, tables, links, values));
         }
         return Written::Refused(Refusal {
-            number: 16,
+            number: Refusal::SMALL_TRAY,
             place: 0,
         });
     }

@@ -47,7 +47,7 @@ fn write_partners(list: &[u32], n: usize, tray: &mut [u8]) -> Written
         return Written::Bytes(write_matching(&mut *tray, list, n));
     }
     Written::Refused(Refusal {
-        number: 16,
+        number: Refusal::SMALL_TRAY,
         place: 0,
     })
 }

@@ -2,6 +2,7 @@
 use crate::Graph;
 use crate::Path;
 use crate::Schema;
+use crate::faults;
 use bits::reader::ends_at;
 use bits::reader::field_at;
 use bits::reader::lacks_at;
@@ -243,11 +244,11 @@ fn decode_body(s: &[u8], c: Counts) -> Schema
     let middle = Counts::BITS + 8 * c.edges;
     let last = middle + 8 * attributes;
     if lacks_at(s, 0, last) {
-        return Schema::faulty(1);
+        return Schema::faulty(faults::CUT);
     }
     let equations = read_equations(s, last, c.equations);
     if equations.cut {
-        return Schema::faulty(1);
+        return Schema::faulty(faults::CUT);
     }
     let next = equations.next;
     if ends_at(s, next) {
@@ -267,7 +268,7 @@ fn decode_body(s: &[u8], c: Counts) -> Schema
             right: right,
         };
     }
-    Schema::faulty(2)
+    Schema::faulty(faults::TAIL)
 }
 
 // What a schema sheet says, or the number with which it is sent back before any test of its sense.
@@ -275,11 +276,11 @@ pub fn decode_schema(s: &[u8]) -> Schema
     ensures { λ r. ⌜ Decoded r (onSheet readSchema (now (s .entry))) ⌝ }
 {
     if lacks_at(s, 0, Counts::BITS) {
-        return Schema::faulty(1);
+        return Schema::faulty(faults::CUT);
     }
     let c = read_counts(s);
     if in_limits(c) {
         return decode_body(s, c);
     }
-    Schema::faulty(3)
+    Schema::faulty(faults::COUNT)
 }

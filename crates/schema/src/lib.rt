@@ -1,6 +1,7 @@
 // Schemas: the judges of a schema sheet and of a path sheet.
 pub mod count;
 pub mod decode;
+pub mod faults;
 pub mod heights;
 pub mod numbers;
 pub mod well_formed;
@@ -103,16 +104,16 @@ fn test_schema(t: Schema) -> Schema
         let count = count::count_paths(g);
         if count.paths > Schema::PATHS {
             if count.looped {
-                return Schema::faulty(5);
+                return Schema::faulty(faults::RING);
             }
-            return Schema::faulty(6);
+            return Schema::faulty(faults::CROWD);
         }
         if heights::has_loop(g) {
-            return Schema::faulty(5);
+            return Schema::faulty(faults::RING);
         }
         return t;
     }
-    Schema::faulty(4)
+    Schema::faulty(faults::STRAY)
 }
 
 // A schema sheet judged: what it says, or the first number that applies to it.
@@ -141,7 +142,7 @@ pub fn judge_path(g: Graph, s: &[u8]) -> JudgedPath
     let path = r.path;
     if r.cut {
         return JudgedPath {
-            fault: 1,
+            fault: faults::CUT,
             path: path,
         };
     }
@@ -155,12 +156,12 @@ pub fn judge_path(g: Graph, s: &[u8]) -> JudgedPath
             };
         }
         return JudgedPath {
-            fault: 4,
+            fault: faults::STRAY,
             path: path,
         };
     }
     JudgedPath {
-        fault: 2,
+        fault: faults::TAIL,
         path: path,
     }
 }
