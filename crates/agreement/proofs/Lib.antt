@@ -25,3 +25,4 @@ pub mod Agrees
 pub mod Matchings
 pub mod Turning
 pub mod Demand3
+pub mod Framing

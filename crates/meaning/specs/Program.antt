@@ -28,6 +28,15 @@ firstSheet input = take (announced input) (drop 2 input)
 abbrev pub laterSheets : List ℕ → List ℕ
 laterSheets input = drop (announced input) (drop 2 input)
 
+-- the first sheet with its byte length
+abbrev pub firstFrame : List ℕ → List ℕ
+firstFrame input = take (2 + announced input) input
+
+-- what is read of an input: the first n sheets with their byte lengths; bytes after them are not read
+abbrev pub frames : ℕ → List ℕ → List ℕ
+frames zero input = []
+frames (suc n) input = firstFrame input ++ frames n (laterSheets input)
+
 -- ---- output
 
 -- a text's characters as bytes

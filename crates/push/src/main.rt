@@ -1,11 +1,12 @@
-// The program push: reads the sheets S, T, mapping and run, each after its 16-bit byte length, and prints the pushed tables or the refusal.
+// The program push: reads the sheets S, T, mapping and run, each after its 16-bit byte length, and no byte after them, and prints the pushed
+// tables or the refusal.
 use text::Text;
 use text::framing::Sheets;
 
 fn main() {
     let mut input = [0u8; Sheets::BYTES];
     let mut text = [0u8; Text::BYTES];
-    let n = io::read_full(0, &mut input);
+    let n = input::read_sheets(0, Sheets::COUNT, &mut input);
     let k = migration::push(&input[..n], &mut text);
     io::write_all(1, &text[..k]);
 }

@@ -1,11 +1,24 @@
 -- Where sheets lie in an input, by meaning's framing.
-use Prim.Native.Nat.{ℕ, _-_, _≤_}
+use Prim.Native.Nat.{ℕ, _+_, _-_, _≤_}
 use mathlib.Core.Path.{_≡_}
 use mathlib.Core.List.{List}
 use lib.ListN.{length, take, drop}
-use Rattle.meaning.specs.Program.{firstSheet, laterSheets}
+use Rattle.meaning.specs.Program.{announced, firstSheet, laterSheets}
 use Rattle.text.specs.declared.framing.Part.{Part}
 use Rattle.text.specs.declared.framing.Sheets.{Sheets}
+
+-- the largest byte length
+abbrev pub maxSheetBytes : ℕ
+maxSheetBytes = 65535
+
+-- the most bytes of a sheet with its byte length
+abbrev pub maxFrameBytes : ℕ
+maxFrameBytes = 2 + maxSheetBytes
+
+-- r is the byte length at a position
+pub record LengthFound (input : List ℕ) (at r : ℕ) : Type 0 where
+  pub is : r ≡ announced (drop at input)
+  pub within : r ≤ maxSheetBytes
 
 -- what `&input[start..end]` holds
 abbrev pub partOf : List ℕ → Part → List ℕ

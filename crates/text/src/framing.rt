@@ -2,14 +2,18 @@
 use schema::numbers::wide;
 ghost use mathlib.Core.Path.{_≡_};
 ghost use Prim.Native.Nat.{_+_, _≤_};
-ghost use lib.ListN.{length, drop};
-ghost use Rattle.meaning.specs.Program.{announced};
-ghost use Rattle.text.specs.Framed.{LiesIn, partOf, SheetFound, SheetsFound};
+ghost use lib.ListN.{length};
+ghost use Rattle.text.specs.Framed.{LengthFound, LiesIn, partOf, SheetFound, SheetsFound};
 
 // The bytes from start up to, not including, end.
 pub struct Part {
     pub start: usize,
     pub end: usize,
+}
+
+impl Part {
+    // The most bytes of a sheet with its byte length: the largest length is 65,535, and two bytes say it.
+    pub const FRAME: usize = 65537;
 }
 
 // The bytes of a part.
@@ -31,14 +35,15 @@ pub struct Sheets {
 }
 
 impl Sheets {
-    // Four sheets of at most 65,535 bytes, each after its length.
-    pub const BYTES: usize = 262148;
+    pub const COUNT: usize = 4;
+    // The sheets, each after its byte length.
+    pub const BYTES: usize = Sheets::COUNT * Part::FRAME;
 }
 
 // The byte length at a position.
-fn length_at(input: &[u8], at: usize) -> usize
+pub fn length_at(input: &[u8], at: usize) -> usize
     requires { ⌜ at + 2 ≤ length (now input) ⌝ }
-    ensures { λ r. ⌜ r ≡ announced (drop at (now (input .entry))) ⌝ }
+    ensures { λ r. ⌜ LengthFound (now (input .entry)) at r ⌝ }
 {
     256 * wide(input[at]) + wide(input[at + 1])
 }

@@ -28,7 +28,10 @@ add-result : tie.Need-add-result
 add-result c = omega (arith, c .before .before .before .shared-slice-known2 .given (c .before .before .before .before .before .args .at), c .before .shared-slice-known3 .given (c .before .before .before .before .before .args .at + 1))
 
 returns : tie.Need-returns
-returns c = let e = length-some (c .before .before .before .before .before .args .input .now) (c .before .before .before .before .before .args .at) (c .before .before .before .before .before .pre) in omega arith
+returns c = record {
+  is = let e = length-some (c .before .before .before .before .before .args .input .now) (c .before .before .before .before .before .args .at) (c .before .before .before .before .before .pre) in omega arith;
+  within = omega (arith, c .before .before .before .shared-slice-known2 .given (c .before .before .before .before .before .args .at), c .before .shared-slice-known3 .given (c .before .before .before .before .before .args .at + 1));
+}
 
 pub length-at-spec : {M : Type 1} → statement M
 length-at-spec =

@@ -21,13 +21,13 @@ sub-if2 : tie.Need-sub-if2
 sub-if2 c = search needs
 
 returns-2 : tie.Need-returns-2
-returns-2 c = sheet-cut _ _ (omega arith) (rw (c .before .length-at .ensures) at (c .if2 .taken))
+returns-2 c = sheet-cut _ _ (omega arith) (rw (c .before .length-at .ensures .is) at (c .if2 .taken))
 
 add-t6 : tie.Need-add-t6
 add-t6 c = search needs
 
 returns-3 : tie.Need-returns-3
-returns-3 c = sheet-whole _ _ (c .before .length-at .ensures) (omega arith) (c .if2 .left)
+returns-3 c = sheet-whole _ _ (c .before .length-at .ensures .is) (omega arith) (c .if2 .left)
 
 pub sheet-at-spec : {M : Type 1} → statement M
 sheet-at-spec =

@@ -1,0 +1,2 @@
+-- What the contracts on reading say.
+pub mod Read
