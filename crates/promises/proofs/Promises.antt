@@ -22,9 +22,10 @@ use Rattle.agreement.proofs.AcceptedSheets.{path-answers, delta-answers, sigma-
 use Rattle.agreement.proofs.Matchings.{judgeMatching-iff}
 use Rattle.agreement.proofs.Agrees.{schema-agrees, delta-agrees, sigma-agrees, pi-agrees}
 use Rattle.agreement.proofs.Demand3.{demand3, provided-iff, unprovided-refused, case3-provided}
+use Rattle.agreement.proofs.Framing.{push-frames}
 use Rattle.migration.proofs.Demand3.{calls-demand3, calls-refuse, meanings-meet}
 use Rattle.migration.proofs.Encoding.{exports-say, results-within}
-use Rattle.promises.specs.Promises.{Demand-1, Demand-2, Demand-3, Header}
+use Rattle.promises.specs.Promises.{Demand-1, Demand-2, Demand-3, Program, Header}
 
 pub demand-1 : Demand-1
 demand-1 = record {
@@ -88,6 +89,9 @@ demand-3 = record {
   calls-refuse = calls-refuse;
   meanings-meet = meanings-meet;
 }
+
+pub program : Program
+program = record { push-frames = push-frames }
 
 pub header : Header
 header = record { exports-say = exports-say; results-within = results-within }

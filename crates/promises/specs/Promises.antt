@@ -28,6 +28,7 @@ use Rattle.meaning.specs.Evenness.{even}
 use Rattle.meaning.specs.Pi.{pi}
 use Rattle.meaning.specs.Matching.{judgeMatching}
 use Rattle.meaning.specs.Calls.{Outcome, refused, accepted, checkSchema, checkMapping, checkInstance, samePath, Migrated, deltaTables, sigmaTables, piTables, sheetOf, sides, rawSheet, pushedSheet, checkPushed, checkRaw, pushedToRaw, rawToPushed, inTray}
+use Rattle.meaning.specs.Program.{frames, push}
 use Rattle.agreement.specs.Paths.{WellFormed, SameStarts, Loop, IsHeight, ListsPaths, Crowded}
 use Rattle.agreement.specs.Tests.{Refusal, Tests, FailsAt, Pass, Decides}
 use Rattle.agreement.specs.CallTests.{checkSchemaTests, checkMappingTests, checkInstanceTests, samePathTests, deltaTests, sigmaTests, piTests, pushedTests, rawTests, trayTests, sheetTests, Result}
@@ -129,6 +130,13 @@ pub record Demand-3 : Type 1 where
   pub of-calls : {c : Calls} → MeetsContracts c → {s t f i j : List ℕ} (x : Provided s t f i j) → Clauses x (answers c s t f i j)
   pub calls-refuse : {c : Calls} → MeetsContracts c → (s t f i j : List ℕ) → (Provided s t f i j → ⊥) → AllRefuse (answers c s t f i j)
   pub meanings-meet : MeetsContracts meaningCalls
+
+-- ---- The push program
+
+pub record Program : Type 0 where
+  -- "bytes after the fourth sheet are not read": what is printed depends on the first four sheets alone; that no other byte is taken from the input is
+  -- the contract of `input` `read_sheets`, from the bytes read to the text printed that of `migration` `push`
+  pub push-frames : (input : List ℕ) → push (frames 4 input) ≡ push input
 
 -- ---- The C header
 
