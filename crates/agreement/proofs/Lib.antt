@@ -1,4 +1,4 @@
--- Meaning agrees with theory, from paths up to demand 3; `promises` gathers what is shown.
+-- Meaning agrees with theory, from paths up to demand 3, and what is read of an input; `promises` gathers what is shown.
 pub mod Paths
 pub mod Loops
 pub mod Steps

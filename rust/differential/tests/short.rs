@@ -1,8 +1,11 @@
 //! A short run: `cargo run --release -p differential -- 200000` is a long one.
 
-use differential::program::{compare_texts, inputs};
+use differential::pipe::{read_in_turn, Feed, LIMIT};
+use differential::program::{compare_pairs, compare_texts, inputs, pairs};
 use differential::{cases, compare, library_outcome};
-use std::path::Path;
+use reference::push;
+use std::process::Command;
+use std::time::Duration;
 use vectors::answer::{reference_outcome, FILLING};
 use vectors::call::Call;
 
@@ -36,8 +39,51 @@ fn another_answer_or_another_tray_is_a_difference() {
 #[test]
 fn another_text_is_a_difference() {
     let mut inputs = inputs(1, 4).skip(3);
-    let other = compare_texts(Path::new("cat"), &mut inputs).expect("a program that runs");
+    let other = compare_texts(|| Command::new("cat"), &mut inputs).expect("a program that runs");
     let other = other.expect_err("cat prints its input");
-    assert_ne!(other.expected, other.found.0);
-    assert!(compare_texts(Path::new("/no/such/program"), [vec![]].into_iter()).is_err());
+    assert_ne!(other.expected.printed, other.found.printed);
+    let none = || Command::new("/no/such/program");
+    assert!(compare_texts(none, [vec![]].into_iter()).is_err());
+    assert!(compare_pairs(none, pairs(1, 1), LIMIT).is_err());
+}
+
+/// A program that waits for the end of the input is found out, and killed.
+#[test]
+fn reading_on_is_a_difference() {
+    let other = compare_pairs(|| Command::new("cat"), pairs(1, 1), Duration::from_millis(300));
+    let other = other.expect("a program that runs").expect_err("cat reads on");
+    assert_eq!(other.found.printed, [None]);
+}
+
+/// A program that prints the right text, of as many bytes as it gets, is found out
+/// by what it leaves.
+#[test]
+fn bytes_taken_from_the_next_reader_are_a_difference() {
+    let (inputs, after) = pairs(1, 2).last().expect("a pair with bytes after it");
+    let text = String::from_utf8(push(&inputs[0])).expect("a text");
+    let greedy = || {
+        let mut shell = Command::new("sh");
+        shell.args(["-c", "dd bs=64k count=1 status=none >/dev/null; printf %s \"$0\"", &text]);
+        shell
+    };
+    let input = [&inputs[0][..], &after].concat();
+    let other = compare_texts(greedy, [input].into_iter()).expect("a program that runs");
+    let other = other.expect_err("dd takes what there is");
+    assert_eq!(other.expected.printed, other.found.printed);
+    assert_eq!((other.expected.left, other.found.left), (after, vec![]));
+}
+
+/// Bytes that come one by one are not found by one read.
+#[test]
+fn slow_bytes_come_in_several_reads() {
+    let one_read = |slowly| {
+        let mut shell = Command::new("sh");
+        shell.args(["-c", "dd bs=4k count=1 status=none | wc -c"]);
+        let feed = Feed { bytes: vec![0; 2000], slowly, open: false };
+        let readings = read_in_turn(&feed, [shell], LIMIT).expect("a program that runs");
+        let (text, _) = readings.printed[0].clone().expect("a program that ends");
+        String::from_utf8(text).expect("a text").trim().parse::<usize>().expect("a number")
+    };
+    assert_eq!(one_read(false), 2000);
+    assert!(one_read(true) < 2000);
 }
