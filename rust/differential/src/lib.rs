@@ -4,11 +4,14 @@
 #![forbid(unsafe_code)]
 #![warn(missing_docs)]
 
+pub mod limit;
 pub mod pipe;
 pub mod program;
 
+use limit::{each_within, Late};
 use migration::*;
 use std::fmt;
+use std::time::Duration;
 use vectors::answer::{reference_outcome, Outcome, FILLING};
 use vectors::call::{Call, Case};
 use vectors::random::Random;
@@ -18,16 +21,38 @@ use vectors::stream::{fixed_and_refused, Chance};
 /// So many bytes on each side of a tray are not lent and must stay.
 const MARGIN: usize = 32;
 
-/// A case that the library and the reference answer differently, or after which
-/// a byte has changed that should not.
+/// The time that a case has, with the reference's answer to it: generous, on a
+/// machine with much other work.
+pub const LIMIT: Duration = Duration::from_secs(120);
+
+/// What the library did instead of answering as it should.
+#[derive(Debug, Clone, Copy, PartialEq, Eq)]
+pub enum Fault {
+    /// It changed what it should not.
+    Changed(&'static str),
+    /// It gave no answer in time.
+    Late(Late<()>),
+}
+
+impl fmt::Display for Fault {
+    fn fmt(&self, out: &mut fmt::Formatter<'_>) -> fmt::Result {
+        match self {
+            Fault::Changed(what) => write!(out, "{what} changed"),
+            Fault::Late(late) => late.fmt(out),
+        }
+    }
+}
+
+/// A case that the library and the reference answer differently, to which the
+/// library gives no answer, or after which a byte has changed that should not.
 #[derive(Debug)]
 pub struct Difference {
     /// The case.
     pub case: Case,
     /// What the reference answers.
     pub expected: Outcome,
-    /// What the library answers, or what it changed.
-    pub found: Result<Outcome, &'static str>,
+    /// What the library answers, or what it did instead.
+    pub found: Result<Outcome, Fault>,
 }
 
 impl fmt::Display for Difference {
@@ -41,7 +66,7 @@ impl fmt::Display for Difference {
         writeln!(out, "expected: {}", told(&self.expected))?;
         match &self.found {
             Ok(outcome) => writeln!(out, "found: {}", told(outcome)),
-            Err(changed) => writeln!(out, "changed: {changed}"),
+            Err(fault) => writeln!(out, "found: {fault}"),
         }
     }
 }
@@ -67,33 +92,45 @@ pub fn cases(seed: u64, count: usize) -> impl Iterator<Item = Case> {
     first.into_iter().chain(Chance::seeded(seed).take(more))
 }
 
-/// Tries the cases; how they ended, or the first that differs.
-pub fn compare(cases: impl Iterator<Item = Case>) -> Result<Report, Box<Difference>> {
-    let mut report = Report::default();
-    for case in cases {
-        let expected = reference_outcome(&case);
-        let found = library_outcome(&case);
-        if found.as_ref() != Ok(&expected) {
-            return Err(Box::new(Difference { case, expected, found }));
+/// Tries the cases, each within [`LIMIT`]; how they ended, or the first that
+/// differs.
+pub fn compare(
+    cases: impl Iterator<Item = Case> + Send + 'static,
+) -> Result<Report, Box<Difference>> {
+    let tried = each_within(LIMIT, move |begin: &dyn Fn(Case)| {
+        let mut report = Report::default();
+        for case in cases {
+            let expected = reference_outcome(&case);
+            begin(case.clone());
+            let found = library_outcome(&case);
+            if found.as_ref() != Ok(&expected) {
+                return Err(Box::new(Difference { case, expected, found }));
+            }
+            report.add(case.call, &expected);
         }
-        report.add(case.call, &expected);
-    }
-    Ok(report)
+        Ok(report)
+    });
+    tried.unwrap_or_else(|late| {
+        let case = late.step.expect("the reference answers the first case");
+        let expected = reference_outcome(&case);
+        let found = Err(Fault::Late(Late { step: None, limit: late.limit }));
+        Err(Box::new(Difference { case, expected, found }))
+    })
 }
 
 /// What the library answers, or what it changed besides the tray.
-pub fn library_outcome(case: &Case) -> Result<Outcome, &'static str> {
+pub fn library_outcome(case: &Case) -> Result<Outcome, Fault> {
     let sheets = case.sheets.clone();
     let mut around = vec![FILLING; MARGIN + case.tray + MARGIN];
     let tray = &mut around[MARGIN..MARGIN + case.tray];
     let answer = call(case.call, &sheets, tray);
     let tray = tray.to_vec();
     if sheets != case.sheets {
-        return Err("a sheet");
+        return Err(Fault::Changed("a sheet"));
     }
     let beside = around[..MARGIN].iter().chain(&around[MARGIN + case.tray..]);
     if beside.into_iter().any(|&byte| byte != FILLING) {
-        return Err("a byte beside the tray");
+        return Err(Fault::Changed("a byte beside the tray"));
     }
     let told =
         |refusal: Refusal| reference::Refusal { number: refusal.number, place: refusal.place };

@@ -5,7 +5,8 @@
 //!   accepted, [`world`] sets of them that fit together;
 //! - [`damage`] makes one sheet of such a set one that is sent back;
 //! - [`papers`], [`limits`], [`puzzles`], [`stream`] are the cases, [`record`] the vector
-//!   file and [`report`] their count by outcome.
+//!   file and [`report`] their count by outcome;
+//! - [`hard`] has the cases that are hardest for Pi, with what they may take.
 
 #![forbid(unsafe_code)]
 #![warn(missing_docs)]
@@ -16,6 +17,7 @@ pub mod build;
 pub mod call;
 pub mod damage;
 pub mod even;
+pub mod hard;
 pub mod instances;
 pub mod limits;
 pub mod mappings;
