@@ -80,7 +80,7 @@ add-result-3 : tie.Need-add-result-3
 add-result-3 c = let f = few (c .before .before .before .before .before .before .before .before .before .before .before) in omega (arith, c .before .before .before .before .rows-in .ensures, c .before .rows-in2 .ensures)
 
 returns : tie.Need-returns
-returns c = search needs
+returns c = omega (arith, c .before .before .before .before .rows-in .ensures, c .before .rows-in2 .ensures)
 
 pub sheet-length-spec : {M : Type 1} → statement M
 sheet-length-spec =

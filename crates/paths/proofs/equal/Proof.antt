@@ -1,8 +1,9 @@
 -- `paths::equal` meets its contract: each path's number is found in the table, and its class stands there.
 use Prim.Native.Nat.{ℕ}
-use mathlib.Core.Path.{_≡_, _∙_}
+use mathlib.Core.Path.{_≡_, ap₂, _∙_}
 use native.Mathlib.Omega.{arith}
 use lib.ListN.{getD}
+use lib.Dec.{eqb}
 use Rattle.meaning.specs.PathEquality.{classOf}
 use Rattle.schema.specs.declared.Path.{Path}
 use Rattle.schema.specs.Decoded.{pathOf, graphOf, schemaOf}
@@ -39,7 +40,7 @@ same-class-requires c κs =
     )
 
 returns : tie.Need-returns
-returns c = c .same-class .ensures ∙ rw (class-is (c .before .before .before .before .before) (c .before .before .before .before .before .before .pre .1) (c .before .before .before .before .path-number .ensures), class-is (c .before .before .before .before .before) (c .before .before .before .before .before .before .pre .2) (c .before .before .before .path-number2 .ensures))
+returns c = c .same-class .ensures ∙ ap₂ eqb (class-is (c .before .before .before .before .before) (c .before .before .before .before .before .before .pre .1) (c .before .before .before .before .path-number .ensures)) (class-is (c .before .before .before .before .before) (c .before .before .before .before .before .before .pre .2) (c .before .before .before .path-number2 .ensures))
 
 pub equal-spec : {M : Type 1} → statement M
 equal-spec =

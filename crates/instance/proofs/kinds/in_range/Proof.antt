@@ -20,7 +20,7 @@ shared-slice-read-result : tie.Need-shared-slice-read-result
 shared-slice-read-result c = search needs
 
 returns : tie.Need-returns
-returns c = search needs
+returns c = refl
 
 returns-2 : tie.Need-returns-2
 returns-2 c = let a = c .before .args in only-zero (a .value) ∙ ap (leb (a .value)) (sym (List·getD-eq-default (a .largest .now) 0 (c .if1 .left)))

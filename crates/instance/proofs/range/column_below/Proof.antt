@@ -32,7 +32,9 @@ wide-requires : tie.Need-wide-requires Inv-loop μ-loop
 wide-requires c κs = search needs
 
 returns : tie.Need-returns Inv-loop μ-loop
-returns c = sym (passed-fail (c .before .before .before .before .loop .inv) (c .before .before .before .loop-test .taken) (le-ltb _ _ (rw (c .before .wide .ensures) at (c .if1 .taken))))
+returns c =
+    let a = c .before .before .before .before .before .before .args in
+    sym (passed-fail (c .before .before .before .before .loop .inv) (c .before .before .before .loop-test .taken) (le-ltb (getD (a .l .now) (a .base + c .before .before .before .before .loop .i) 0) (a .bound) (omega (arith, c .before .wide .ensures))))
 
 add-i : tie.Need-add-i Inv-loop μ-loop
 add-i c = omega arith
@@ -41,7 +43,9 @@ loop-less : tie.Need-loop-less Inv-loop μ-loop
 loop-less c = omega arith
 
 loop-again : tie.Need-loop-again Inv-loop μ-loop
-loop-again c = passed-more (c .before .before .before .before .loop .inv) (c .before .before .before .loop-test .taken) (lt-ltb _ _ (rw (c .before .wide .ensures) at (c .if1 .left)))
+loop-again c =
+    let a = c .before .before .before .before .before .before .args in
+    passed-more (c .before .before .before .before .loop .inv) (c .before .before .before .loop-test .taken) (lt-ltb (getD (a .l .now) (a .base + c .before .before .before .before .loop .i) 0) (a .bound) (omega (arith, c .before .wide .ensures)))
 
 returns-2 : tie.Need-returns-2 Inv-loop μ-loop
 returns-2 c = sym (passed-done (c .before .loop .inv) (c .loop-test .left))

@@ -13,7 +13,7 @@ add-put-decimal : tie.Need-add-put-decimal
 add-put-decimal c = omega (arith, space-room (c .before .before .args .n) (c .before .before .pre))
 
 put-decimal-requires : tie.Need-put-decimal-requires
-put-decimal-requires c κs = number-room (c .before .before .args .n) (c .before .before .pre)
+put-decimal-requires c κs = record { room = omega (arith, number-room (c .before .before .args .n) (c .before .before .pre) .room) }
 
 same-length : tie.Need-same-length
 same-length c = c .before .before .put-decimal .kept .0 ∙ simp length-set
