@@ -34,7 +34,7 @@ schema-agrees s {S} e =
       paths = paths-listed S wf;
       equality = equal-paths-iff S wf;
       apart = unequal S wf;
-      first = class-first S wf;
+      first = λ p. class-first S wf (p .start) (p .edges);
       heights = height-is S (f .well-formed) (f .loop-free);
     }
 

@@ -13,7 +13,7 @@ use Rattle.theory.specs.Mapping as theoryMapping
 use Rattle.theory.specs.Mapping.{Even, Bijective}
 use Rattle.theory.specs.Sigma.{IsSigma}
 use Rattle.theory.specs.Pi.{IsComponents, IsPi}
-use Rattle.meaning.specs.Schema.{Path, path, Schema, end, height}
+use Rattle.meaning.specs.Schema.{Path, Schema, end, height}
 use Rattle.meaning.specs.PathEquality.{equal, classOf}
 use Rattle.meaning.specs.Sheet.{sound}
 use Rattle.meaning.specs.Formats.{Mapping, Instance, maxComponents, maxRows, instanceSheet}
@@ -34,7 +34,7 @@ pub record SchemaAgrees (S : Schema) : Type 0 where
   pub apart : (p q : Path) → IsPath (schemaOf S) (p .start) (p .edges) → IsPath (schemaOf S) (q .start) (q .edges)
       → (p .start ≡ q .start → end (S .graph) p ≡ end (S .graph) q → ⊥) → equal S p q ≡ false
   -- a class's number is that of its first path: a chain leads to it, and to no path before it
-  pub first : (n : ℕ) (p : List ℕ) → IsPath (schemaOf S) n p → FirstEqual (schemaOf S) n p (pathAt (S .graph) (classOf S (path n p)) .edges)
+  pub first : (p : Path) → IsPath (schemaOf S) (p .start) (p .edges) → FirstEqual S p (pathAt (S .graph) (classOf S p))
   -- heights obey the paper's sentence
   pub heights : IsHeight (S .graph) (height (S .graph))
 

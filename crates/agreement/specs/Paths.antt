@@ -73,7 +73,7 @@ numberOf G p = pathNumber (allPaths G) p
 abbrev pub pathAt : Graph → ℕ → Path
 pathAt G i = getD (allPaths G) i (path 0 [])
 
--- g is the first of the paths from n that equal p
-pub record FirstEqual (S : theory.Schema) (n : ℕ) (p g : List ℕ) : Type 0 where
-  pub equal : Chain S n p g
-  pub first : IsFirst S n g
+-- g is the first of the paths that equal p
+pub record FirstEqual (S : Schema) (p g : Path) : Type 0 where
+  pub equal : EqualPaths S p g
+  pub first : IsFirst (schemaOf S) (p .start) (g .edges)
