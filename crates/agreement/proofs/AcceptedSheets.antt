@@ -199,19 +199,19 @@ module _ (s t f i : List ℕ) {S T : Schema} {F : Mapping} {I : Instance} (x : I
 -- ---- Delta: 15
 
 module _ (s t f j : List ℕ) {S T : Schema} {F : Mapping} {J : Instance} (x : Inputs s t f j S T T F J) where
-  delta-answer : Bool → Outcome Migrated
-  delta-answer r = do
+  deltaOutcome : Bool → Outcome Migrated
+  deltaOutcome r = do
     K ← (do
       _ ← ensure r 15
       accepted (delta S F J))
     accepted (record { schema = S; tables = K })
 
-  delta-yields : deltaTables s t f j ≡ delta-answer (leb (sumOf (delta S F J .counts)) maxRows)
-  unfolding delta-answer
+  delta-yields : deltaTables s t f j ≡ deltaOutcome (leb (sumOf (delta S F J .counts)) maxRows)
+  unfolding deltaOutcome
   delta-yields = rw (x .S-accepted, x .T-accepted, x .F-accepted, x .I-accepted)
 
-  delta-by : (r : Bool) → ((delta-answer r ≡ refused 15 0) ↔ (r ≡ false)) × (((M : Migrated) × (delta-answer r ≡ accepted M)) ↔ (r ≡ true))
-  unfolding delta-answer
+  delta-by : (r : Bool) → ((deltaOutcome r ≡ refused 15 0) ↔ (r ≡ false)) × (((M : Migrated) × (deltaOutcome r ≡ accepted M)) ↔ (r ≡ true))
+  unfolding deltaOutcome
   delta-by true = ((λ e. absurd (refused-not-accepted (sym e)), λ e. absurd (no-bool e)), (λ e. refl, λ e. (record { schema = S; tables = delta S F J }, refl)))
   delta-by false = ((λ e. refl, λ e. refl), (λ e. absurd (refused-not-accepted (e .1)), λ e. absurd (no-bool (sym e))))
 
@@ -231,21 +231,21 @@ module _ (s t f j : List ℕ) {S T : Schema} {F : Mapping} {J : Instance} (x : I
 -- ---- Sigma: 12
 
 module _ (s t f i : List ℕ) {S T : Schema} {F : Mapping} {I : Instance} (x : Inputs s t f i S T S F I) where
-  sigma-answer : Bool → Outcome Migrated
-  sigma-answer r = do
+  sigmaOutcome : Bool → Outcome Migrated
+  sigmaOutcome r = do
     _ ← ensure r 12
     P ← ensureFits (sigma S T F I)
     accepted (record { schema = T; tables = P })
 
-  sigma-yields : sigmaTables s t f i ≡ sigma-answer (even S T F)
-  unfolding sigma-answer
+  sigma-yields : sigmaTables s t f i ≡ sigmaOutcome (even S T F)
+  unfolding sigmaOutcome
   sigma-yields = rw (x .S-accepted, x .T-accepted, x .F-accepted, x .I-accepted)
 
   v′ : ValidMapping S T F
   v′ = mapping-valid s t f (x .S-accepted) (x .T-accepted) (x .F-accepted)
 
-  sigma-by : (r : Bool) → (r ≡ true → Even (mappingOf S T F)) → ((sigma-answer r ≡ refused 12 0) ↔ (r ≡ false)) × (((M : Migrated) × (sigma-answer r ≡ accepted M)) ↔ (r ≡ true))
-  unfolding sigma-answer
+  sigma-by : (r : Bool) → (r ≡ true → Even (mappingOf S T F)) → ((sigmaOutcome r ≡ refused 12 0) ↔ (r ≡ false)) × (((M : Migrated) × (sigmaOutcome r ≡ accepted M)) ↔ (r ≡ true))
+  unfolding sigmaOutcome
   sigma-by true h =
       let e = sigma-never-overfull v′ (h refl) (instance-valid S i (x .I-accepted)) in
       rw e ((λ k. absurd (refused-not-accepted (sym k)), λ k. absurd (no-bool k)), (λ k. refl, λ k. (record { schema = T; tables = sigma S T F I }, refl)))

@@ -20,6 +20,7 @@ use Rattle.meaning.specs.Views.{Shaped, schemaOf, attributeImage, mappingOf, co
 use Rattle.meaning.specs.Pi.{Component, components, families, restrict, valueAt, pi}
 use Rattle.meaning.proofs.Lists.{sameList-iff, getD-map, position-in, position-passes}
 use Rattle.agreement.specs.Valid.{ValidMapping, ValidInstance}
+use Rattle.agreement.proofs.Sheets.{alike-same}
 use Rattle.agreement.proofs.Joined.{map-upto-length, map-upto-getD}
 use Rattle.agreement.proofs.Components.{asPair, asPairs, components-are}
 use Rattle.agreement.proofs.Families.{familyOf, family-iff, rowsAt-familyOf, familyOf-rowsAt, rowsAt-listed, families-sorted, families-none}
@@ -167,6 +168,10 @@ module _ {S T : Schema} {F : Mapping} (v : ValidMapping S T F) (I : Instance) wh
     -- and no others are
     pub pi-only : {P : theory.Instance ℕ} → IsPi (mappingOf S T F) (instanceOf I) P → Alike (schemaOf T) P (instanceOf (pi S T F I))
     pi-only P-is = pi-one (v .is) paired P-is pi-is-pi
+
+    -- nor other tables
+    pub pi-tables : (J : Instance) → Shaped T J → IsPi (mappingOf S T F) (instanceOf I) (instanceOf J) → J ≡ pi S T F I
+    pi-tables J shaped J-is = alike-same T shaped pi-shaped (pi-only J-is)
 
     -- Pi is an instance of T: links and values in range, and all path equations
     pi-instance : {Range : ℕ → ℕ → Type 0} → IsInstance Range (schemaOf S) (instanceOf I) → IsInstance Range (schemaOf T) (instanceOf (pi S T F I))

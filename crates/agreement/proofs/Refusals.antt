@@ -1,4 +1,5 @@
--- Each kind of sheet is decided by its tests (specs/SheetTests.antt): the judge's refusal is that of the first test that fails.
+-- Each kind of sheet is decided by its tests (specs/SheetTests.antt): the judge's refusal is that of the first test that fails. Readers refuse
+-- with 1, 2 and 3 only, so that 6 is given exactly for too many paths.
 use Prim.Native.Nat.{ℕ, zero, suc, _+_, _*_, _<_}
 use mathlib.Core.Path.{_≡_, refl, sym, ap, _∙_, subst}
 use mathlib.Core.Bool.{Bool, true, false, cond, not}
@@ -48,23 +49,23 @@ cuts-field w = record { so = λ s p e. go (leb (p + w) (8 * length s)) (bits.fie
     go false v q e = sym (fails-same e)
 
 module _ {P : ℕ → Type 0} where
-  cuts-give : {A : Type 0} {a : A} → RefusesIn P (give a)
-  cuts-give = record { so = λ s p e. absurd (fails-not-reads e) }
+  refuses-give : {A : Type 0} {a : A} → RefusesIn P (give a)
+  refuses-give = record { so = λ s p e. absurd (fails-not-reads e) }
 
-  cuts-bind : {A B : Type 0} {m : Reader A} {k : A → Reader B} → RefusesIn P m → ((a : A) → RefusesIn P (k a)) → RefusesIn P (m >>= k)
-  cuts-bind {A} {m = m} {k = k} M K = record { so = λ s p e. go s p (m s p) refl e }
+  refuses-bind : {A B : Type 0} {m : Reader A} {k : A → Reader B} → RefusesIn P m → ((a : A) → RefusesIn P (k a)) → RefusesIn P (m >>= k)
+  refuses-bind {A} {m = m} {k = k} M K = record { so = λ s p e. go s p (m s p) refl e }
     where
       go : (s : List ℕ) (p : ℕ) (r : Read A) → m s p ≡ r → {n : ℕ} → after s r k ≡ fails n → P n
       go s p (fails j) d e = subst P (fails-same e) (M .so s p d)
       go s p (reads a q) d e = K a .so s q e
 
-  cuts-times : {A : Type 0} {m : Reader A} (n : ℕ) → RefusesIn P m → RefusesIn P (times n m)
-  cuts-times zero M = cuts-give
-  cuts-times (suc n) M = cuts-bind M (λ x. cuts-bind (cuts-times n M) (λ xs. cuts-give))
+  refuses-times : {A : Type 0} {m : Reader A} (n : ℕ) → RefusesIn P m → RefusesIn P (times n m)
+  refuses-times zero M = refuses-give
+  refuses-times (suc n) M = refuses-bind M (λ x. refuses-bind (refuses-times n M) (λ xs. refuses-give))
 
-  cuts-inTurn : {A B : Type 0} {m : A → Reader B} (xs : List A) → ((x : A) → RefusesIn P (m x)) → RefusesIn P (inTurn m xs)
-  cuts-inTurn [] M = cuts-give
-  cuts-inTurn (x ∷ xs) M = cuts-bind (M x) (λ y. cuts-bind (cuts-inTurn xs M) (λ ys. cuts-give))
+  refuses-inTurn : {A B : Type 0} {m : A → Reader B} (xs : List A) → ((x : A) → RefusesIn P (m x)) → RefusesIn P (inTurn m xs)
+  refuses-inTurn [] M = refuses-give
+  refuses-inTurn (x ∷ xs) M = refuses-bind (M x) (λ y. refuses-bind (refuses-inTurn xs M) (λ ys. refuses-give))
 
 -- ---- one test of a sheet
 
@@ -94,10 +95,10 @@ decides-sound place a = record { so = refl }
 
 -- ---- path
 cuts-edges : Cuts readEdges
-cuts-edges = cuts-bind (cuts-field 4) (λ k. cuts-times k (cuts-field 5))
+cuts-edges = refuses-bind (cuts-field 4) (λ k. refuses-times k (cuts-field 5))
 
 cuts-path : Cuts readPath
-cuts-path = cuts-bind (cuts-field 4) (λ n. cuts-bind cuts-edges (λ es. cuts-give))
+cuts-path = refuses-bind (cuts-field 4) (λ n. refuses-bind cuts-edges (λ es. refuses-give))
 
 pub path-decided : (place : ℕ) (G : Graph) (s : List ℕ) → Decides (pathTests place G s) (at place (judgePath G s))
 path-decided place G s =
@@ -108,23 +109,23 @@ path-decided place G s =
 
 -- ---- schema
 cuts-counts : Cuts readCounts
-cuts-counts = cuts-bind (cuts-field 5) (λ n. cuts-bind (cuts-field 6) (λ e. cuts-bind (cuts-field 5) (λ a. cuts-bind (cuts-field 6) (λ q. cuts-give))))
+cuts-counts = refuses-bind (cuts-field 5) (λ n. refuses-bind (cuts-field 6) (λ e. refuses-bind (cuts-field 5) (λ a. refuses-bind (cuts-field 6) (λ q. refuses-give))))
 
 cuts-edge : Cuts readEdge
-cuts-edge = cuts-bind (cuts-field 4) (λ s. cuts-bind (cuts-field 4) (λ t. cuts-give))
+cuts-edge = refuses-bind (cuts-field 4) (λ s. refuses-bind (cuts-field 4) (λ t. refuses-give))
 
 cuts-attribute : Cuts readAttribute
-cuts-attribute = cuts-bind (cuts-field 4) (λ n. cuts-bind (cuts-field 4) (λ k. cuts-give))
+cuts-attribute = refuses-bind (cuts-field 4) (λ n. refuses-bind (cuts-field 4) (λ k. refuses-give))
 
 cuts-equation : Cuts readEquation
-cuts-equation = cuts-bind cuts-path (λ l. cuts-bind cuts-path (λ r. cuts-give))
+cuts-equation = refuses-bind cuts-path (λ l. refuses-bind cuts-path (λ r. refuses-give))
 
 cuts-lists : (c : Counts) → Cuts (readLists c)
 cuts-lists c =
-    cuts-bind (cuts-times (c .edges) cuts-edge) (λ es.
-    cuts-bind (cuts-times (c .attributes) cuts-attribute) (λ as′.
-    cuts-bind (cuts-times (c .equations) cuts-equation) (λ qs.
-    cuts-give)))
+    refuses-bind (refuses-times (c .edges) cuts-edge) (λ es.
+    refuses-bind (refuses-times (c .attributes) cuts-attribute) (λ as′.
+    refuses-bind (refuses-times (c .equations) cuts-equation) (λ qs.
+    refuses-give)))
 
 pub schema-decided : (place : ℕ) (s : List ℕ) → Decides (schemaTests place s) (at place (judgeSchema s))
 schema-decided place s =
@@ -143,7 +144,7 @@ low-cuts : {A : Type 0} {m : Reader A} → Cuts m → RefusesIn (λ n. n < 4) m
 low-cuts M = record { so = λ s p e. let h = M .so s p e in omega arith }
 
 low-ensure : (b : Bool) (n : ℕ) → n < 4 → RefusesIn (λ n. n < 4) (ensure b n)
-low-ensure true n h = cuts-give
+low-ensure true n h = refuses-give
 low-ensure false n h = record { so = λ s p e. let k = fails-same e in omega arith }
 
 low-finish : RefusesIn (λ n. n < 4) finish
@@ -151,11 +152,11 @@ low-finish = record { so = λ s p e. low-ensure (bits.tailOk s p) 2 (omega arith
 
 low-schema : RefusesIn (λ n. n < 4) readSchema
 low-schema =
-    cuts-bind (low-cuts cuts-counts) (λ c.
-    cuts-bind (low-ensure (countsInLimits c) 3 (omega arith)) (λ _.
-    cuts-bind (low-cuts (cuts-lists c)) (λ S.
-    cuts-bind low-finish (λ _.
-    cuts-give))))
+    refuses-bind (low-cuts cuts-counts) (λ c.
+    refuses-bind (low-ensure (countsInLimits c) 3 (omega arith)) (λ _.
+    refuses-bind (low-cuts (cuts-lists c)) (λ S.
+    refuses-bind low-finish (λ _.
+    refuses-give))))
 
 module _ {A : Type 0} where
   faulty-same : {n m : ℕ} → _≡_ {A = Judged A} (faulty n) (faulty m) → n ≡ m
@@ -201,10 +202,10 @@ module _ {A B C : Type 0} (s : List ℕ) where
 
 cuts-images : (S : Schema) → Cuts (readImages S)
 cuts-images S =
-    cuts-bind (cuts-times (S .graph .nodes) (cuts-field 4)) (λ ns.
-    cuts-bind (cuts-times (length (S .graph .edges)) cuts-edges) (λ es.
-    cuts-bind (cuts-times (length (S .attributes)) (cuts-field 4)) (λ as′.
-    cuts-give)))
+    refuses-bind (refuses-times (S .graph .nodes) (cuts-field 4)) (λ ns.
+    refuses-bind (refuses-times (length (S .graph .edges)) cuts-edges) (λ es.
+    refuses-bind (refuses-times (length (S .attributes)) (cuts-field 4)) (λ as′.
+    refuses-give)))
 
 -- reading, then the end
 abbrev finished : {A : Type 0} → A → Reader A
@@ -233,16 +234,16 @@ mapping-decided place S T s =
 -- ---- instance
 cuts-linksValues : (S : Schema) (counts : List ℕ) → Cuts (readLinksValues S counts)
 cuts-linksValues S counts =
-    cuts-bind (cuts-inTurn (S .graph .edges) (λ e. cuts-times (getD counts (e .source) 0) (cuts-field 9))) (λ ls.
-    cuts-bind (cuts-inTurn (S .attributes) (λ a. cuts-times (getD counts (a .node) 0) (cuts-field 32))) (λ vs.
-    cuts-give))
+    refuses-bind (refuses-inTurn (S .graph .edges) (λ e. refuses-times (getD counts (e .source) 0) (cuts-field 9))) (λ ls.
+    refuses-bind (refuses-inTurn (S .attributes) (λ a. refuses-times (getD counts (a .node) 0) (cuts-field 32))) (λ vs.
+    refuses-give))
 
 linksValues-finished : (S : Schema) (counts s : List ℕ) (p : ℕ) → after s (readLinksValues S counts s p) finished ≡ readTables S counts s p
 linksValues-finished S counts s p = after-after s (readLinks S counts s p) _ _ _ (λ ls p. after-after s (readValues S counts s p) _ _ _ (λ vs p. refl))
 
 pub instance-decided : (place : ℕ) (S : Schema) (s : List ℕ) → Decides (instanceTests place S s) (at place (judgeInstance S s))
 instance-decided place S s =
-    decides-read place (cuts-times (S .graph .nodes) (cuts-field 10)) s 0 _ tests (λ counts p.
+    decides-read place (refuses-times (S .graph .nodes) (cuts-field 10)) s 0 _ tests (λ counts p.
     decides-reader place 3 (leb (sumOf counts) maxRows) s p _ tests (
     decides-as (ap (λ (r : Read Instance). at place (judge._>>=_ (judged r) tests)) (linksValues-finished S counts s p)) (
     decides-read place (cuts-linksValues S counts) s p finished tests (λ I q.
@@ -262,7 +263,7 @@ instance-decided place S s =
 -- ---- matching
 pub matching-decided : (place : ℕ) (S : Schema) (A B : Instance) (s : List ℕ) → Decides (matchingTests place S A B s) (at place (judgeMatching S A B s))
 matching-decided place S A B s =
-    decides-read place (cuts-times (sumOf (A .counts)) (cuts-field 9)) s 0 _ _ (λ l q.
+    decides-read place (refuses-times (sumOf (A .counts)) (cuts-field 9)) s 0 _ _ (λ l q.
     decides-reader place 2 (bits.tailOk s q) s q _ _ (
     decides-judge place 17 (isMatching S A B l) _ (
     decides-sound place l)))

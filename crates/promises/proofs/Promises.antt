@@ -17,7 +17,9 @@ use Rattle.agreement.proofs.Refusals.{crowd-iff}
 use Rattle.agreement.proofs.Outcomes.{checkSchema-decided, checkMapping-decided, checkInstance-decided, samePath-decided, delta-answer, sigma-answer, pi-answer, checkPushed-decided, checkRaw-decided, pushedToRaw-answer, rawToPushed-answer, refused-tray, accepted-tray}
 use Rattle.agreement.proofs.Valid.{mapping-valid, instance-accepted-iff}
 use Rattle.agreement.proofs.Evenness.{even-iff}
-use Rattle.agreement.proofs.Pi.{pi-single}
+use Rattle.agreement.proofs.Sigma.{sigma-never-overfull}
+use Rattle.agreement.proofs.Bijections.{bijective-iff}
+use Rattle.agreement.proofs.Pi.{pi-tables, pi-single}
 use Rattle.agreement.proofs.AcceptedSheets.{path-answers, delta-answers, sigma-answers, pi-answers}
 use Rattle.agreement.proofs.Matchings.{judgeMatching-iff}
 use Rattle.agreement.proofs.Agrees.{schema-agrees, delta-agrees, sigma-agrees, pi-agrees}
@@ -71,11 +73,14 @@ demand-2 = record {
   pi-agrees = pi-agrees;
   sigma-one = sigma-one;
   pi-one = pi-one;
+  pi-tables = λ v I paired. pi-tables v I paired;
   pi-single = pi-single;
   delta-answers = delta-answers;
   sigma-answers = sigma-answers;
   pi-answers = pi-answers;
   test-12 = even-iff;
+  test-13 = bijective-iff;
+  sigma-fits = λ v even w. sigma-never-overfull v even w;
   test-17 = judgeMatching-iff;
 }
 

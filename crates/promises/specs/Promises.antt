@@ -25,9 +25,10 @@ use Rattle.meaning.specs.Formats.{Mapping, Instance, readMapping, readInstance,
 use Rattle.meaning.specs.Views.{Shaped, schemaOf, nodeImage, edgeImage, mappingOf, count, instanceOf}
 use Rattle.meaning.specs.Judge.{isWellFormed, hasFewPaths, imagesFit, keepsEquations, linksInRange, valuesInRange, obeysEquations, judgePath, judgeSchema, judgeMapping, judgeInstance}
 use Rattle.meaning.specs.Evenness.{even}
-use Rattle.meaning.specs.Pi.{pi}
+use Rattle.meaning.specs.Sigma.{sigma}
+use Rattle.meaning.specs.Pi.{isBijective, pi}
 use Rattle.meaning.specs.Matching.{judgeMatching}
-use Rattle.meaning.specs.Calls.{Outcome, refused, accepted, checkSchema, checkMapping, checkInstance, samePath, Migrated, deltaTables, sigmaTables, piTables, sheetOf, sides, rawSheet, pushedSheet, checkPushed, checkRaw, pushedToRaw, rawToPushed, inTray}
+use Rattle.meaning.specs.Calls.{Outcome, refused, accepted, ensureFits, checkSchema, checkMapping, checkInstance, samePath, Migrated, deltaTables, sigmaTables, piTables, sheetOf, sides, rawSheet, pushedSheet, checkPushed, checkRaw, pushedToRaw, rawToPushed, inTray}
 use Rattle.meaning.specs.Program.{frames, push}
 use Rattle.agreement.specs.Paths.{WellFormed, SameStarts, Loop, IsHeight, ListsPaths, Crowded}
 use Rattle.agreement.specs.Tests.{Refusal, Tests, FailsAt, Pass, Decides}
@@ -102,14 +103,19 @@ pub record Demand-2 : Type 1 where
   -- no other tables are Sigma's or Pi's
   pub sigma-one : {F : theoryMapping.Mapping} → IsMapping F → Even F → {I P Q : theory.Instance ℕ} → IsSigma F I P → IsSigma F I Q → Alike (F .T) P Q
   pub pi-one : {F : theoryMapping.Mapping} {I P Q : theory.Instance ℕ} → IsMapping F → Bijective F → IsPi F I P → IsPi F I Q → Alike (F .T) P Q
+  pub pi-tables : {S T : Schema} {F : Mapping} → ValidMapping S T F → (I : Instance) → Bijective (mappingOf S T F)
+      → (J : Instance) → Shaped T J → IsPi (mappingOf S T F) (instanceOf I) (instanceOf J) → J ≡ pi S T F I
   -- "Without components there is exactly 1 row"
   pub pi-single : {S T : Schema} {F : Mapping} → ValidMapping S T F → (I : Instance) (d : ℕ) → d < T .graph .nodes
       → ((k : ℕ × List ℕ) → IsComponent (mappingOf S T F) d k → ⊥) → count (pi S T F I) d ≡ 1
-  -- "nothing is refused outside the listed conditions": on accepted sheets, 15 of Delta, 12 of Sigma (and of the matching calls), 13, 14 and 15 of Pi
+  -- "nothing is refused outside the listed conditions": on accepted sheets, 15 of Delta, 12 of Sigma, 13, 14 and 15 of Pi
   pub delta-answers : (s t f j : List ℕ) {S T : Schema} {F : Mapping} {J : Instance} → Inputs s t f j S T T F J → DeltaAnswers s t f j (mappingOf S T F) (instanceOf J)
   pub sigma-answers : (s t f i : List ℕ) {S T : Schema} {F : Mapping} {I : Instance} → Inputs s t f i S T S F I → SigmaAnswers s t f i (mappingOf S T F)
   pub pi-answers : (s t f i : List ℕ) {S T : Schema} {F : Mapping} {I : Instance} → Inputs s t f i S T S F I → PiAnswers s t f i (mappingOf S T F) (instanceOf I)
+  -- the tests 12 and 13 by themselves, and that Sigma is never overfull, in the matching calls too
   pub test-12 : {S T : Schema} {F : Mapping} → ValidMapping S T F → (even S T F ≡ true) ↔ Even (mappingOf S T F)
+  pub test-13 : {S T : Schema} {F : Mapping} → ValidMapping S T F → (isBijective T F ≡ true) ↔ Bijective (mappingOf S T F)
+  pub sigma-fits : {S T : Schema} {F : Mapping} → ValidMapping S T F → Even (mappingOf S T F) → {I : Instance} → ValidInstance S I → ensureFits (sigma S T F I) ≡ accepted (sigma S T F I)
   -- 17: "a list is a matching if it is the whole sheet of one"
   pub test-17 : (S : Schema) (A B : Instance) → Shaped S A → sumOf (B .counts) ≤ maxRows → (k : List ℕ) → Bytes k
       → ((l : List ℕ) × (judgeMatching S A B k ≡ sound l)) ↔ ((l : List ℕ) × IsMatching (schemaOf S) (instanceOf A) (instanceOf B) l × (k ≡ matchingSheet l))
