@@ -19,14 +19,16 @@ pub fn write_column(tray: &mut [u8], at: usize, width: usize, l: &[u32], base: u
     requires { ⌜ Fields (now tray) at width n × (base + n ≤ length (now l)) ⌝ }
     ensures { λ _. ⌜ now (tray .exit) ≡ putAll (now (tray .entry)) at (fieldsOf width (columnOf (now (l .entry)) base n)) ⌝ }
 {
+    let mut head = bits::read_head(&*tray, at);
     let mut i = 0;
     let mut p = at;
     while i < n {
         let value = wide(l[base + i]) as u64;
-        bits::write_field(&mut *tray, p, width, value);
+        head = bits::append_field(&mut *tray, p, width, value, head);
         p += width;
         i += 1;
     }
+    bits::write_head(&mut *tray, p, head);
 }
 
 // Writes n columns, one after the other, and gives the position behind them.
