@@ -26,12 +26,15 @@ use Rattle.schema.specs.declared.Schema.{Schema}
 use Rattle.schema.specs.Decoded.{graphOf, pathOf, noPath, equationOf, schemaOf}
 use Rattle.schema.specs.Judged.{Sound, SoundPath}
 use Rattle.schema.proofs.GraphEdges.{edges-count}
+use Rattle.schema.proofs.Judging.{fit}
 use Rattle.schema.proofs.SoundSchema.{sides-at}
 use Rattle.paths.specs.declared.Paths.{Paths}
 use Rattle.paths.specs.PathNumbers.{startOf, endOf}
 use Rattle.paths.specs.Table.{Filled, Index, IsTable}
 use Rattle.paths.specs.PathWalks.{walkFrom}
+use Rattle.paths.specs.Chains.{Small}
 use Rattle.paths.specs.Classes.{joinNumbers, followerPairs, pairsAt, equationPairs, schemaPairs, Joinable, classNumber}
+use Rattle.paths.proofs.Filling.{end-low}
 use Rattle.paths.proofs.PathWalks.{Reached, walk-reaches, Numbered, walk-number}
 use Rattle.paths.proofs.PathBlocks.{behind}
 use Rattle.paths.proofs.FollowerPairs.{pairs-of, pairs-in, pairs-within}
@@ -53,6 +56,14 @@ module _ (t : Schema) (p : Paths) (sound : Sound t) (table : IsTable (graphOf (t
     edges = omega (arith, edges-count (t .graph .edges) (t .graph .source) (t .graph .target), sound .limits .edges);
     firsts = λ i h. table .first .each i (omega (arith, table .counted));
     ranks = table .rank .each;
+  }
+
+  -- every path ends at a node
+  pub ends-small : Small (p .end) (p .count)
+  ends-small = record {
+    few = table .few;
+    long = omega (arith, table .columns .end .long, table .few);
+    each = λ i h. omega (arith, table .columns .end .each i h, end-low (t .graph) (fit (sound .limits) (sound .well-formed)) (sound .acyclic) i (omega (arith, table .counted)), sound .limits .nodes);
   }
 
   -- ---- an equation
@@ -137,6 +148,7 @@ module _ (t : Schema) (p : Paths) (sound : Sound t) (table : IsTable (graphOf (t
   pub joinable : (q : ℕ) → q < t .equations → Joinable p (t .graph .nodes) (left q) (right q)
   joinable q h = record {
     few = table .few;
+    start = omega (arith, sides-at t sound q h .start-in, sound .limits .nodes);
     left-short = sound .limits .left .each q h;
     right-short = sound .limits .right .each q h;
     left = λ u w e. to-left q h u w e .within;

@@ -1,9 +1,10 @@
 -- The table of paths as it is filled: ranks edge by edge, rows path by path.
-use Prim.Native.Nat.{ℕ, zero, suc, _+_, _<_, _≤_}
+use Prim.Native.Nat.{ℕ, zero, suc, _+_, _-_, _<_, _≤_}
 use mathlib.Core.Path.{_≡_, refl, sym, ap, _∙_, subst}
 use mathlib.Core.Bool.{Bool, true, false}
 use mathlib.Core.List.{List, [], _∷_, _++_}
 use native.Mathlib.Omega.{arith}
+use native.Mathlib.Nat.{add-zero}
 use native.Mathlib.Numerals.{add-one}
 use lib.ListN.{length, getD, set, replicate, length-set, length-append, getD-replicate, length-replicate}
 use lib.Seq.{getD-set-same, getD-set-other}
@@ -19,10 +20,10 @@ use Rattle.agreement.proofs.Paths.{number-at}
 use Rattle.schema.specs.declared.Graph as declared
 use Rattle.schema.specs.Decoded.{graphOf}
 use Rattle.schema.specs.Counted.{Fit}
-use Rattle.schema.proofs.GraphEdges.{source-at}
+use Rattle.schema.proofs.GraphEdges.{edges-count, source-at, target-at}
 use Rattle.paths.specs.declared.Paths.{Paths}
 use Rattle.paths.specs.PathNumbers.{initial, final, startOf, endOf, lengthOf, parentOf, lastOf, firstOf, leavingBelow, rankOf}
-use Rattle.paths.specs.Table.{Filled, Columns, Trivial, NextLeaving}
+use Rattle.paths.specs.Table.{Filled, Columns, Trivial}
 use Rattle.paths.proofs.PathNumbers.{below-here, below-skip, trivial-at, trivial-count, first-more, first-end, next-at}
 use Rattle.paths.proofs.PathParents.{initial-one, final-one, first-after, parents}
 
@@ -114,9 +115,29 @@ pub length-low : (G : Graph) → hasLoop G ≡ false → (b i : ℕ) → i ≤ b
 length-low G acyclic zero i l h = length-step G acyclic i h (λ x k. absurd (omega arith))
 length-low G acyclic (suc b) i l h = length-step G acyclic i h (λ x k. length-low G acyclic b x (omega arith) (omega arith))
 
+-- a path ends at a node
+pub end-low : (g : declared.Graph) → Fit g → hasLoop (graphOf g) ≡ false → (i : ℕ) → i < pathCount (graphOf g) → endOf (graphOf g) i < g .nodes
+end-low g f acyclic i h = go (ltb i (g .nodes)) refl
+  where
+    go : (t : Bool) → ltb i (g .nodes) ≡ t → endOf (graphOf g) i < g .nodes
+    go true p = let l = ltb-true i (g .nodes) p in omega (arith, ap (λ (q : Path). endpoint (target (graphOf g)) (q .start) (q .edges)) (trivial-at (graphOf g) acyclic i l))
+    go false p =
+        let w = parents (graphOf g) acyclic i (ltb-false i (g .nodes) p) h in
+        let b = w .below in
+        let e : lastOf (graphOf g) i < g .edges = omega (arith, w .edge, edges-count (g .edges) (g .source) (g .target)) in
+        omega (arith, next-row (graphOf g) i (parentOf (graphOf g) i) (lastOf (graphOf g) i) (omega arith) (w .is) .end, target-at (g .edges) (g .source) (g .target) (lastOf (graphOf g) i) e, f .targets (lastOf (graphOf g) i) e)
+
+-- no edge from edge i on leaves node v, for d edges
+pub below-still : (G : Graph) (v i d : ℕ) → ((j : ℕ) → j < i + d → i ≤ j → source G j ≡ v → ⊥) → leavingBelow G v (i + d) ≡ leavingBelow G v i
+below-still G v i zero none = ap (leavingBelow G v) (add-zero i)
+below-still G v i (suc d) none =
+    let z : i + suc d ≡ i + d + 1 = omega arith in
+    ap (leavingBelow G v) z ∙ below-skip G v (i + d) (none (i + d) (omega arith) (omega arith)) ∙ below-still G v i d (λ j a b. none j (omega arith) b)
+
 -- ---- rows: those of the paths before path h are followed, path h by the edges below e, and the next row is row n
 pub record Filling (G : Graph) (n h e : ℕ) (t : Paths) : Type 0 where
   pub some : h ≤ pathCount G
+  pub low : n ≤ pathCount G
   pub within : e ≤ length (G .edges)
   pub fresh : (pathCount G ≤ h → e ≡ 0)
   pub next : n ≡ firstOf G h + length (leavingBelow G (endOf G h) e)
@@ -127,6 +148,7 @@ module _ (G : Graph) (acyclic : hasLoop G ≡ false) where
   pub filling-start : {t : Paths} → Trivial (G .nodes) t → Filling G (G .nodes) 0 0 t
   filling-start {t} r = record {
     some = omega arith;
+    low = trivial-count G acyclic;
     within = omega arith;
     fresh = λ _. refl;
     next = omega arith;
@@ -154,15 +176,19 @@ module _ (G : Graph) (acyclic : hasLoop G ≡ false) where
     filling-end = f .columns .end .each h filling-row
 
     -- up to the next edge that leaves its end
-    pub filling-to : {k : ℕ} → NextLeaving G (endOf G h) e k → Filling G n h k t
-    filling-to {k} s = record {
-      some = f .some;
-      within = s .within;
-      fresh = λ l. absurd (omega arith);
-      next = f .next ∙ ap (λ (l : List ℕ). firstOf G h + length l) (sym (s .none));
-      columns = f .columns;
-      first = f .first;
-    }
+    pub filling-to : {k : ℕ} → e ≤ k → k ≤ length (G .edges) → ((j : ℕ) → j < k → e ≤ j → source G j ≡ endOf G h → ⊥) → Filling G n h k t
+    filling-to {k} later within none =
+        let z : e + (k - e) ≡ k = omega arith in
+        let same : leavingBelow G (endOf G h) k ≡ leavingBelow G (endOf G h) e = ap (leavingBelow G (endOf G h)) (sym z) ∙ below-still G (endOf G h) e (k - e) (λ j a b. none j (omega arith) b) in
+        record {
+          some = f .some;
+          low = f .low;
+          within = within;
+          fresh = λ l. absurd (omega arith);
+          next = f .next ∙ ap (λ (l : List ℕ). firstOf G h + length l) (sym same);
+          columns = f .columns;
+          first = f .first;
+        }
 
     module _ (edge : e < length (G .edges)) (here : source G e ≡ endOf G h) where
       number-is : n ≡ firstOf G h + rankOf G e
@@ -182,8 +208,14 @@ module _ (G : Graph) (acyclic : hasLoop G ≡ false) where
       pub filling-first : n ≡ firstOf G (h + 1)
       filling-first = let z : e ≡ length (G .edges) = omega (arith, f .within) in f .next ∙ ap (λ (m : ℕ). firstOf G h + length (leavingBelow G (endOf G h) m)) z ∙ sym (first-more G acyclic h less)
 
-  pub filling-done : {n h e : ℕ} {t : Paths} → Filling G n h e t → pathCount G ≤ h → (h ≡ pathCount G) × (n ≡ pathCount G)
-  filling-done {n} {h} {e} f l =
-      let z : h ≡ pathCount G = omega (arith, f .some) in
-      let k : n ≡ firstOf G h + 0 = f .next ∙ ap (λ (m : ℕ). firstOf G h + length (leavingBelow G (endOf G h) m)) (f .fresh l) in
-      (z, omega (arith, ap (firstOf G) z, first-end G acyclic))
+  -- no path is left
+  pub filling-done : {n h e : ℕ} {t : Paths} → Filling G n h e t → n ≤ h → (h ≡ pathCount G) × (n ≡ pathCount G)
+  filling-done {n} {h} {e} f l = go (ltb h (pathCount G)) refl
+    where
+      go : (b : Bool) → ltb h (pathCount G) ≡ b → (h ≡ pathCount G) × (n ≡ pathCount G)
+      go true p = absurd (omega (arith, filling-row f (ltb-true h (pathCount G) p)))
+      go false p =
+          let k = ltb-false h (pathCount G) p in
+          let z : h ≡ pathCount G = omega (arith, f .some) in
+          let m : n ≡ firstOf G h + 0 = f .next ∙ ap (λ (m : ℕ). firstOf G h + length (leavingBelow G (endOf G h) m)) (f .fresh k) in
+          (z, omega (arith, ap (firstOf G) z, first-end G acyclic))

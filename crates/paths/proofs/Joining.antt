@@ -15,7 +15,8 @@ use Rattle.meaning.specs.PathEquality.{joinClasses}
 use Rattle.meaning.proofs.Tabulate.{rest-more, rest-done}
 use Rattle.meaning.proofs.Lists.{upto-length, upto-getD}
 use Rattle.paths.specs.Table.{Filled}
-use Rattle.paths.specs.Classes.{renamedTo, joinNumbers, runPairs, followerPairs, RunsIn, NextEnding}
+use Rattle.paths.specs.Chains.{NextAt}
+use Rattle.paths.specs.Classes.{renamedTo, joinNumbers, runPairs, followerPairs, RunsIn}
 
 -- ---- a list mapped in place: its first i elements are
 pub front : (ℕ → ℕ) → ℕ → List ℕ → List ℕ
@@ -155,5 +156,5 @@ turns-to {F} {n} {i} {k} {l} {m} (suc d) e t h none =
     turns-to d (omega arith) (turns-more t (omega arith) (rw (none i less (omega arith)))) h (λ j a b. none j a (omega arith))
 
 -- behind paths that end elsewhere there is nothing to join
-pub turns-next : {F : ℕ → List (ℕ × ℕ)} {n i k v : ℕ} {l m ends : List ℕ} → ((j : ℕ) → (getD ends j 0 ≡ v → ⊥) → F j ≡ []) → Turns F n l i m → NextEnding ends v i n k → Turns F n l k m
+pub turns-next : {F : ℕ → List (ℕ × ℕ)} {n i k v : ℕ} {l m ends : List ℕ} → ((j : ℕ) → (getD ends j 0 ≡ v → ⊥) → F j ≡ []) → Turns F n l i m → NextAt ends v i n k → Turns F n l k m
 turns-next {n} {i} {k} elsewhere t e = let h = e .later in turns-to (k - i) (omega arith) t (e .within) (λ j x y. elsewhere j (e .none j x y))

@@ -1,6 +1,7 @@
 -- Laws of the table of paths and its walks, and of classes.
 pub mod PathNumbers
 pub mod PathParents
+pub mod Chaining
 pub mod Filling
 pub mod Joining
 pub mod PathWalks

@@ -37,13 +37,6 @@ abbrev pub RunsIn : List ℕ → ℕ → ℕ → ℕ → ℕ → Type 0
 RunsIn first a b n zero = Unit {0}
 RunsIn first a b n (suc d) = (a + n ≤ 256) × (b + n ≤ 256) × (getD first a 0 ≤ getD first (a + n) 0) × RunsIn first (getD first a 0) (getD first b 0) (getD first (a + n) 0 - getD first a 0) d
 
--- path k is the first from i on that ends at node v, or there is none and k is n
-pub record NextEnding (end : List ℕ) (v i n k : ℕ) : Type 0 where
-  pub later : i ≤ k
-  pub within : k ≤ n
-  pub none : (j : ℕ) → j < k → i ≤ j → getD end j 0 ≡ v → ⊥
-  pub ends : (k < n → getD end k 0 ≡ v)
-
 -- ---- the pairs of an equation: behind each path u that ends at its start, both sides and what follows them
 abbrev pub pairsAt : Paths → ℕ → Path → Path → ℕ → List (ℕ × ℕ)
 pairsAt p nodes l r u =
@@ -57,6 +50,7 @@ equationPairs p nodes l r = concatMap (pairsAt p nodes l r) (upto (p .count))
 -- all of them are in the table
 pub record Joinable (p : Paths) (nodes : ℕ) (l r : Path) : Type 0 where
   pub few : p .count ≤ 256
+  pub start : l .start < 16
   pub left-short : l .length ≤ 15
   pub right-short : r .length ≤ 15
   pub left : (u : ℕ) → u < p .count → getD (p .end) u 0 ≡ l .start → WalkIn (p .first) (p .rank) u (pathOf l .edges)

@@ -2,4 +2,5 @@
 pub mod PathNumbers
 pub mod Table
 pub mod PathWalks
+pub mod Chains
 pub mod Classes

@@ -3,10 +3,10 @@ use Prim.Native.Nat.{ℕ, _+_, _<_, _≤_}
 use mathlib.Core.Path.{_≡_}
 use mathlib.Core.List.{List}
 use lib.ListN.{length, getD}
-use Rattle.meaning.specs.Schema.{Graph, source}
+use Rattle.meaning.specs.Schema.{Graph}
 use Rattle.agreement.specs.Paths.{pathCount}
 use Rattle.paths.specs.declared.Paths.{Paths}
-use Rattle.paths.specs.PathNumbers.{startOf, endOf, lengthOf, parentOf, lastOf, firstOf, leavingBelow, rankOf}
+use Rattle.paths.specs.PathNumbers.{startOf, endOf, lengthOf, parentOf, lastOf, firstOf, rankOf}
 
 -- the first n entries of an array of `size` entries are those of f
 pub record Filled (size : ℕ) (f : ℕ → ℕ) (n : ℕ) (l : List ℕ) : Type 0 where
@@ -24,13 +24,6 @@ pub record Trivial (n : ℕ) (t : Paths) : Type 0 where
   pub last : Filled 256 (λ i. 0) n (t .last)
   pub first : Filled 257 (λ i. n) 1 (t .first)
 
--- edge k is the first from e on that leaves node v, or there is none and k is the number of edges
-pub record NextLeaving (G : Graph) (v e k : ℕ) : Type 0 where
-  pub later : e ≤ k
-  pub within : k ≤ length (G .edges)
-  pub none : leavingBelow G v k ≡ leavingBelow G v e
-  pub leaves : (k < length (G .edges) → source G k ≡ v)
-
 -- the rows of the first n paths
 pub record Columns (G : Graph) (n : ℕ) (t : Paths) : Type 0 where
   pub start : Filled 256 (startOf G) n (t .start)
@@ -38,11 +31,6 @@ pub record Columns (G : Graph) (n : ℕ) (t : Paths) : Type 0 where
   pub length : Filled 256 (lengthOf G) n (t .length)
   pub parent : Filled 256 (parentOf G) n (t .parent)
   pub last : Filled 256 (lastOf G) n (t .last)
-
--- and where those that follow them stand
-pub record Rows (G : Graph) (n : ℕ) (t : Paths) : Type 0 where
-  pub columns : Columns G n t
-  pub first : Filled 257 (firstOf G) (n + 1) (t .first)
 
 -- what walking the table relies on
 pub record Index (G : Graph) (first rank : List ℕ) : Type 0 where

@@ -1,9 +1,11 @@
 // Classes of equal paths: each path starts as a class of its own, and each step of an equation joins two classes under the lower number.
 use crate::Paths;
+use crate::chains::chain;
 use crate::walk::walk;
 use schema::Path;
 use schema::Schema;
 use schema::numbers::index;
+use schema::numbers::wide;
 ghost use mathlib.Core.Path.{_≡_};
 ghost use mathlib.Core.List.{map};
 ghost use Prim.Native.Nat.{_+_, _<_, _≤_};
@@ -14,7 +16,8 @@ ghost use Rattle.meaning.specs.PathEquality.{joinClasses};
 ghost use Rattle.schema.specs.Decoded.{graphOf, schemaOf};
 ghost use Rattle.schema.specs.Judged.{Sound};
 ghost use Rattle.paths.specs.Table.{Filled, IsTable};
-ghost use Rattle.paths.specs.Classes.{renamedTo, joinNumbers, runPairs, followerPairs, RunsIn, NextEnding, equationPairs, Joinable, classNumber};
+ghost use Rattle.paths.specs.Chains.{Chained};
+ghost use Rattle.paths.specs.Classes.{renamedTo, joinNumbers, runPairs, followerPairs, RunsIn, equationPairs, Joinable, classNumber};
 
 // The class number of each path.
 pub struct Classes {
@@ -52,20 +55,17 @@ fn rename(c: Classes, old: u8, new: u8) -> Classes
     Classes { of: of }
 }
 
-// The classes of paths a and b, joined under the lower number.
-fn join(c: Classes, a: usize, b: usize) -> Classes
-    requires { ⌜ (a < 256) × (b < 256) ⌝ }
-    ensures { λ r. ⌜ r .of ≡ joinClasses (getD (c .of) a 0) (getD (c .of) b 0) (c .of) ⌝ }
+// Two classes joined under the lower number.
+fn join(c: Classes, x: u8, y: u8) -> Classes
+    ensures { λ r. ⌜ r .of ≡ joinClasses x y (c .of) ⌝ }
 {
-    let x = c.of[a];
-    let y = c.of[b];
     if x < y {
         return rename(c, y, x);
     }
     rename(c, x, y)
 }
 
-// The same of n paths from a on and n from b on, in turn.
+// The classes of n paths from a on and of n from b on, joined in turn.
 fn join_runs(c: Classes, a: usize, b: usize, n: usize) -> Classes
     requires { ⌜ (a + n ≤ 256) × (b + n ≤ 256) ⌝ }
     ensures { λ r. ⌜ r .of ≡ joinNumbers (runPairs a b n) (c .of) ⌝ }
@@ -73,10 +73,10 @@ fn join_runs(c: Classes, a: usize, b: usize, n: usize) -> Classes
     let mut out = c;
     let mut j = 0;
     while j < n {
-        let x = a + j;
-        let y = b + j;
+        let x = out.of[a + j];
+        let y = out.of[b + j];
         j += 1;
-        if out.of[x] != out.of[y] {
+        if x != y {
             out = join(out, x, y);
         }
     }
@@ -113,34 +113,28 @@ fn join_followers(
     out
 }
 
-// The first path from a path on that ends at a node, or the number of paths where none does.
-fn next_ending(end: &[u8; Schema::PATHS], node: u8, from: usize, count: usize) -> usize
-    requires { ⌜ («from» ≤ count) × (count ≤ 256) ⌝ }
-    ensures { λ r. ⌜ NextEnding (now (end .entry)) node «from» count r ⌝ }
-{
-    let mut k = from;
-    while k < count {
-        if end[k] == node {
-            return k;
-        }
-        k += 1;
-    }
-    k
-}
-
-// The classes that an equation joins: behind each path u that ends at its start.
-fn join_equation(p: Paths, c: Classes, left: Path, right: Path, nodes: usize) -> Classes
-    requires { ⌜ Joinable p nodes left right ⌝ }
+// The classes that an equation joins: behind each path u that ends at its start. Of each path, next has the next one with its end, and of each node,
+// ends has the first.
+fn join_equation<'a>(
+    p: Paths,
+    next: &'a [u16; Schema::PATHS],
+    ends: &'a [u16; Schema::NODES],
+    c: Classes,
+    left: Path,
+    right: Path,
+    nodes: usize,
+) -> Classes
+    requires { ⌜ Joinable p nodes left right × Chained (p .end) (p .count) 0 (now next) (now ends) ⌝ }
     ensures { λ r. ⌜ r .of ≡ joinNumbers (equationPairs p nodes left right) (c .of) ⌝ }
 {
     let count = p.count;
     let mut out = c;
-    let mut u = next_ending(&p.end, left.start, 0, count);
+    let mut u = index(ends[wide(left.start)]);
     while u < count {
         let a = walk(&p.first, &p.rank, u, &left.edges, left.length as usize);
         let b = walk(&p.first, &p.rank, u, &right.edges, right.length as usize);
         out = join_followers(&p.first, out, a, b, nodes);
-        u = next_ending(&p.end, left.start, u + 1, count);
+        u = index(next[u]);
     }
     out
 }
@@ -152,12 +146,13 @@ pub fn class_numbers(t: Schema, p: Paths) -> Classes
 {
     let n = t.equations;
     let nodes = t.graph.nodes;
+    let ends = chain(&p.end, p.count);
     let mut c = own_classes();
     let mut q = 0;
     while q < n {
         let left = t.left[q];
         let right = t.right[q];
-        c = join_equation(p, c, left, right, nodes);
+        c = join_equation(p, &ends.next, &ends.first, c, left, right, nodes);
         q += 1;
     }
     c

@@ -1,11 +1,11 @@
 // Paths of a schema: the table of all of them, with their classes, and the path question.
+pub mod chains;
 pub mod classes;
 pub mod table;
 pub mod walk;
 
 use schema::Path;
 use schema::Schema;
-use schema::count;
 ghost use mathlib.Core.Path.{_≡_};
 ghost use Rattle.meaning.specs.PathEquality.{equal as equalPaths};
 ghost use Rattle.schema.specs.Decoded.{pathOf, schemaOf};
@@ -32,12 +32,7 @@ pub fn path_table(t: Schema) -> Paths
     requires { ⌜ Sound t ⌝ }
     ensures { λ r. ⌜ IsPaths (schemaOf t) r ⌝ }
 {
-    let g = t.graph;
-    let count = count::count_paths(g).paths;
-    let mut p = table::fill(g, count);
-    let rank = table::rank_edges(g);
-    p.count = count;
-    p.rank = rank;
+    let mut p = table::fill(t.graph);
     let class = classes::class_numbers(t, p).of;
     p.class = class;
     p

@@ -1,5 +1,7 @@
 // The table of all paths, shortest first: each path is followed by the edges that leave its end.
 use crate::Paths;
+use crate::chains::chain;
+use crate::chains::next_place;
 use schema::Graph;
 use schema::Schema;
 use schema::numbers::wide;
@@ -10,10 +12,10 @@ ghost use Rattle.meaning.specs.Schema.{hasLoop};
 ghost use Rattle.agreement.specs.Paths.{pathCount};
 ghost use Rattle.schema.specs.Decoded.{graphOf};
 ghost use Rattle.schema.specs.Counted.{Fit};
-ghost use Rattle.paths.specs.Table.{Ranked, Trivial, NextLeaving, Rows};
+ghost use Rattle.paths.specs.Table.{Ranked, Trivial, IsTable};
 
 // For each edge its place among those that leave its source.
-pub fn rank_edges(g: Graph) -> [u8; Schema::EDGES]
+fn rank_edges(g: Graph) -> [u8; Schema::EDGES]
     requires { ⌜ Fit g ⌝ }
     ensures { λ r. ⌜ Ranked (graphOf g) r ⌝ }
 {
@@ -58,34 +60,20 @@ fn trivial_paths(nodes: usize) -> Paths
     }
 }
 
-// The first edge from an edge on that leaves a node, or the number of edges where none does.
-fn next_leaving(g: Graph, node: u8, from: usize) -> usize
-    requires { ⌜ («from» ≤ g .edges) × (g .edges ≤ 32) ⌝ }
-    ensures { λ r. ⌜ NextLeaving (graphOf g) node «from» r ⌝ }
+// The whole table but for the classes: path h is followed by the edges from e on, and the next row is row n.
+pub fn fill(g: Graph) -> Paths
+    requires { ⌜ Fit g × (hasLoop (graphOf g) ≡ false) × (pathCount (graphOf g) ≤ 256) ⌝ }
+    ensures { λ r. ⌜ IsTable (graphOf g) r ⌝ }
 {
     let edges = g.edges;
-    let mut k = from;
-    while k < edges {
-        if g.source[k] == node {
-            return k;
-        }
-        k += 1;
-    }
-    k
-}
-
-// All rows: path h is followed by the edges from e on, and the next row is row n.
-pub fn fill(g: Graph, count: usize) -> Paths
-    requires { ⌜ Fit g × (hasLoop (graphOf g) ≡ false) × (count ≡ pathCount (graphOf g)) × (count ≤ 256) ⌝ }
-    ensures { λ r. ⌜ Rows (graphOf g) count r ⌝ }
-{
-    let edges = g.edges;
+    let chains = chain(&g.source, edges);
     let mut t = trivial_paths(g.nodes);
     let mut n = g.nodes;
     let mut h = 0;
     let mut e = 0;
-    while h < count {
-        let k = next_leaving(g, t.end[h], e);
+    while h < n {
+        let node = t.end[h];
+        let k = next_place(&chains.next, &chains.first, node, e);
         if k < edges {
             let start = t.start[h];
             let longer = t.length[h] + 1;
@@ -103,5 +91,8 @@ pub fn fill(g: Graph, count: usize) -> Paths
             e = 0;
         }
     }
+    let rank = rank_edges(g);
+    t.count = n;
+    t.rank = rank;
     t
 }

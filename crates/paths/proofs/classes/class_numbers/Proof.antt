@@ -7,15 +7,18 @@ use lib.ListN.{getD}
 use Rattle.schema.specs.Decoded.{noPath}
 use Rattle.paths.specs.Classes.{joinNumbers, equationPairs, schemaPairs}
 use Rattle.paths.proofs.Joining.{Turns, turns-start, turns-more, turns-done}
-use Rattle.paths.proofs.EquationPairs.{joinable, class-column}
+use Rattle.paths.proofs.EquationPairs.{ends-small, joinable, class-column}
 use Rattle.paths.proofs.classes.class_numbers.Statement.{statement}
 use Rattle.paths.proofs.classes.class_numbers.Tie as tie
 
 abbrev Inv-loop : tie.InvT-loop
-Inv-loop p t n nodes c₀ q₀ c q = Turns (λ i. equationPairs p (t .graph .nodes) (getD (t .left) i noPath) (getD (t .right) i noPath)) (t .equations) (c₀ .of) q (c .of)
+Inv-loop t p n nodes ends c₀ q₀ c q = Turns (λ i. equationPairs p (t .graph .nodes) (getD (t .left) i noPath) (getD (t .right) i noPath)) (t .equations) (c₀ .of) q (c .of)
 
 abbrev μ-loop : tie.MeasureT-loop
-μ-loop p t n nodes c₀ q₀ c q = t .equations - q
+μ-loop t p n nodes ends c₀ q₀ c q = t .equations - q
+
+chain-requires : tie.Need-chain-requires Inv-loop μ-loop
+chain-requires c κs = let a = c .before .before .before in ends-small (a .args .t1) (a .args .t2) (a .pre .0) (a .pre .1)
 
 own-classes-requires : tie.Need-own-classes-requires Inv-loop μ-loop
 own-classes-requires c κs = search needs
@@ -24,31 +27,31 @@ loop-holds : tie.Need-loop-holds Inv-loop μ-loop
 loop-holds c = turns-start _ _ _
 
 mul-left : tie.Need-mul-left Inv-loop μ-loop
-mul-left c = let k = c .before .before .before .pre .0 .limits .equations in omega arith
+mul-left c = let k = c .before .before .before .before .before .before .before .pre .0 .limits .equations in omega arith
 
 element-copy-out-left : tie.Need-element-copy-out-left Inv-loop μ-loop
-element-copy-out-left c = let k = c .before .before .before .pre .0 .limits .equations in omega arith
+element-copy-out-left c = let k = c .before .before .before .before .before .before .before .pre .0 .limits .equations in omega arith
 
 mul-right : tie.Need-mul-right Inv-loop μ-loop
-mul-right c = let k = c .before .before .before .before .pre .0 .limits .equations in omega arith
+mul-right c = let k = c .before .before .before .before .before .before .before .before .pre .0 .limits .equations in omega arith
 
 element-copy-out-right : tie.Need-element-copy-out-right Inv-loop μ-loop
-element-copy-out-right c = let k = c .before .before .before .before .pre .0 .limits .equations in omega arith
+element-copy-out-right c = let k = c .before .before .before .before .before .before .before .before .pre .0 .limits .equations in omega arith
 
 join-equation-requires : tie.Need-join-equation-requires Inv-loop μ-loop
-join-equation-requires c κs = let a = c .before .before .before .before .before in joinable (a .args .t1) (a .args .p) (a .pre .0) (a .pre .1) (c .before .before .before .loop .q) (c .before .before .loop-test .taken)
+join-equation-requires c κs = let a = c .before .before .before .before .before .before .before .before .before .before .before .before in (joinable (a .args .t1) (a .args .t2) (a .pre .0) (a .pre .1) (c .before .before .before .before .before .before .loop .q) (c .before .before .before .before .before .loop-test .taken), c .before .before .before .before .before .before .before .before .chain .ensures)
 
 add-q : tie.Need-add-q Inv-loop μ-loop
-add-q c = let k = c .before .before .before .before .before .before .pre .0 .limits .equations in omega arith
+add-q c = let k = c .before .before .before .before .before .before .before .before .before .before .before .before .before .pre .0 .limits .equations in omega (arith, c .before .before .before .before .before .before .loop-test .taken)
 
 loop-less : tie.Need-loop-less Inv-loop μ-loop
-loop-less c = let k = c .before .before .before .loop-test .taken in omega arith
+loop-less c = let k = c .before .before .before .before .before .before .loop-test .taken in omega arith
 
 loop-again : tie.Need-loop-again Inv-loop μ-loop
-loop-again c = turns-more (c .before .before .before .before .loop .inv) (c .before .before .before .loop-test .taken) (c .join-equation .ensures)
+loop-again c = turns-more (c .before .before .before .before .before .before .before .loop .inv) (c .before .before .before .before .before .before .loop-test .taken) (c .join-equation .ensures)
 
 returns : tie.Need-returns Inv-loop μ-loop
-returns c = let a = c .before .before .before in class-column (a .args .t1) (a .args .p) (a .pre .0) (a .pre .1) (turns-done (c .before .loop .inv) (c .loop-test .left) ∙ ap (joinNumbers (schemaPairs (a .args .t1) (a .args .p))) (c .before .before .own-classes .ensures))
+returns c = let a = c .before .before .before .before .before .before .before in class-column (a .args .t1) (a .args .t2) (a .pre .0) (a .pre .1) (turns-done (c .before .loop .inv) (c .loop-test .left) ∙ ap (joinNumbers (schemaPairs (a .args .t1) (a .args .t2))) (c .before .before .own-classes .ensures))
 
 pub class-numbers-spec : {M : Type 1} → statement M
 class-numbers-spec =
@@ -56,6 +59,7 @@ class-numbers-spec =
     (tie.spec
     Inv-loop
     μ-loop
+    chain-requires
     own-classes-requires
     loop-holds
     mul-left

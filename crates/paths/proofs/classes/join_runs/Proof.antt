@@ -2,6 +2,7 @@
 use Prim.Native.Nat.{_-_}
 use mathlib.Core.Path.{sym}
 use native.Mathlib.Omega.{arith}
+use borrow.Author.Needs.{needs}
 use Rattle.paths.proofs.Joining.{join-same, Run, run-start, run-more, run-done}
 use Rattle.paths.proofs.classes.join_runs.Statement.{statement}
 use Rattle.paths.proofs.classes.join_runs.Tie as tie
@@ -18,20 +19,20 @@ loop-holds c = run-start _ _ _ _
 add-x : tie.Need-add-x Inv-loop μ-loop
 add-x c = let p = c .before .before .pre in omega arith
 
+element-copy-out-x : tie.Need-element-copy-out-x Inv-loop μ-loop
+element-copy-out-x c = let p = c .before .before .pre in omega arith
+
 add-y : tie.Need-add-y Inv-loop μ-loop
-add-y c = let p = c .before .before .pre in omega arith
+add-y c = let p = c .before .before .before .pre in omega arith
+
+element-copy-out-y : tie.Need-element-copy-out-y Inv-loop μ-loop
+element-copy-out-y c = let p = c .before .before .before .pre in omega arith
 
 add-j : tie.Need-add-j Inv-loop μ-loop
-add-j c = let p = c .before .before .pre in omega arith
-
-element-copy-out-if1 : tie.Need-element-copy-out-if1 Inv-loop μ-loop
-element-copy-out-if1 c = let p = c .before .before .pre in omega arith
-
-element-copy-out-if1-2 : tie.Need-element-copy-out-if1-2 Inv-loop μ-loop
-element-copy-out-if1-2 c = let p = c .before .before .before .pre in omega arith
+add-j c = let p = c .before .before .before .before .pre in omega arith
 
 join-requires : tie.Need-join-requires Inv-loop μ-loop
-join-requires c κs = let p = c .before .before .before .before .before .pre in let t = c .before .before .before .loop-test .taken in (omega arith, omega arith)
+join-requires c κs = search needs
 
 loop-less : tie.Need-loop-less Inv-loop μ-loop
 loop-less c = let t = c .before .before .before .before .loop-test .taken in omega arith
@@ -56,10 +57,10 @@ join-runs-spec =
     μ-loop
     loop-holds
     add-x
+    element-copy-out-x
     add-y
+    element-copy-out-y
     add-j
-    element-copy-out-if1
-    element-copy-out-if1-2
     join-requires
     loop-less
     loop-again

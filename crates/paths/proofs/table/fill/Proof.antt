@@ -1,84 +1,109 @@
--- `paths::table::fill` meets its contract. The invariant: path h is followed by the edges before e, and n rows are filled.
-use Prim.Native.Nat.{ℕ, _+_, _-_, _*_, _<_}
+-- `paths::table::fill` meets its contract. The invariant: path h is followed by the edges before e, of which the last leaves its end, and n rows are filled.
+use Prim.Native.Nat.{ℕ, _+_, _-_, _*_, _<_, _≤_}
 use mathlib.Core.Path.{_≡_, refl, sym, ap, _∙_, subst}
 use native.Mathlib.Omega.{arith}
-use lib.ListN.{length}
+use borrow.Author.Needs.{needs}
+use lib.ListN.{length, getD}
 use Rattle.meaning.specs.Schema.{Graph, source}
 use Rattle.agreement.specs.Paths.{pathCount}
 use Rattle.schema.specs.Decoded.{graphOf}
-use Rattle.schema.proofs.GraphEdges.{edges-count, target-at}
+use Rattle.schema.proofs.GraphEdges.{edges-count, source-at, target-at}
 use Rattle.paths.specs.PathNumbers.{firstOf, endOf}
-use Rattle.paths.specs.Table.{Filled, Columns, NextLeaving}
-use Rattle.paths.proofs.PathNumbers.{first-low}
-use Rattle.paths.proofs.Filling.{filled-more, length-low, Filling, filling-start, filling-row, filling-end, filling-to, filling-in, filling-is, filling-more, filling-first, filling-done}
+use Rattle.paths.specs.Table.{Filled}
+use Rattle.paths.specs.Chains.{NextAt, nextPlace}
+use Rattle.paths.proofs.Chaining.{next-place}
+use Rattle.paths.proofs.Filling.{filled-more, length-low, end-low, Filling, filling-start, filling-row, filling-end, filling-to, filling-in, filling-is, filling-more, filling-first, filling-done}
 use Rattle.paths.proofs.table.fill.Statement.{statement}
 use Rattle.paths.proofs.table.fill.Tie as tie
 
 abbrev Inv-loop : tie.InvT-loop
-Inv-loop count g edges t₀ n₀ h₀ e₀ t n h e = Filling (graphOf g) n h e t
+Inv-loop g edges chains t₀ n₀ h₀ e₀ t n h e = Filling (graphOf g) n h e t × (0 < e → getD (g .source) (e - 1) 0 ≡ endOf (graphOf g) h)
 
 abbrev μ-loop : tie.MeasureT-loop
-μ-loop count g edges t₀ n₀ h₀ e₀ t n h e = 34 * (count - h) + (edges - e)
+μ-loop g edges chains t₀ n₀ h₀ e₀ t n h e = 34 * (pathCount (graphOf g) - h) + (g .edges - e)
 
 -- path h is in the table
-less : (c : tie.In-loop Inv-loop μ-loop) → c .before .loop .h < pathCount (graphOf (c .before .before .before .args .t1))
-less c = omega (arith, c .loop-test .taken, c .before .before .before .pre .2)
+less : (c : tie.In-loop Inv-loop μ-loop) → c .before .loop .h < pathCount (graphOf (c .before .before .before .before .before .before .before .args .t1))
+less c = omega (arith, c .loop-test .taken, c .before .loop .inv .0 .low)
 
 row : (c : tie.In-loop Inv-loop μ-loop) → c .before .loop .h < 256
-row c = omega (arith, c .loop-test .taken, c .before .before .before .pre .3)
+row c = omega (arith, less c, c .before .before .before .before .before .before .before .pre .2)
+
+-- its end is a node
+node-low : (c : tie.In-loop Inv-loop μ-loop) → endOf (graphOf (c .before .before .before .before .before .before .before .args .t1)) (c .before .loop .h) < 16
+node-low c = omega (arith, end-low (c .before .before .before .before .before .before .before .args .t1) (c .before .before .before .before .before .before .before .pre .0) (c .before .before .before .before .before .before .before .pre .1) (c .before .loop .h) (less c), c .before .before .before .before .before .before .before .pre .0 .nodes)
+
+end-is : (c : tie.In-loop Inv-loop μ-loop) → getD (c .before .loop .t .end) (c .before .loop .h) 0 ≡ endOf (graphOf (c .before .before .before .before .before .before .before .args .t1)) (c .before .loop .h)
+end-is c = filling-end (graphOf (c .before .before .before .before .before .before .before .args .t1)) (c .before .before .before .before .before .before .before .pre .1) (c .before .loop .inv .0) (less c)
+
+before-edges : (c : tie.In-loop Inv-loop μ-loop) → c .before .loop .e ≤ c .before .before .before .before .before .before .before .args .t1 .edges
+before-edges c = let g = c .before .before .before .before .before .before .before .args .t1 in omega (arith, c .before .loop .inv .0 .within, edges-count (g .edges) (g .source) (g .target))
 
 -- ---- edge k, the next one that leaves the end of path h
-abbrev graph : tie.After-next-leaving Inv-loop μ-loop → Graph
-graph c = graphOf (c .before .before .before .before .before .args .t1)
+abbrev graph : tie.After-next-place Inv-loop μ-loop → Graph
+graph c = graphOf (c .before .before .before .before .before .before .before .before .before .before .before .before .args .t1)
 
-end-is : (c : tie.After-next-leaving Inv-loop μ-loop) → NextLeaving (graph c) (endOf (graph c) (c .before .before .before .loop .h)) (c .before .before .before .loop .e) (c .next-leaving .result)
-end-is c = subst (λ (v : ℕ). NextLeaving (graph c) v (c .before .before .before .loop .e) (c .next-leaving .result)) (filling-end (graph c) (c .before .before .before .before .before .pre .1) (c .before .before .before .loop .inv) (less (c .before .before))) (c .next-leaving .ensures)
+edge : (c : tie.After-next-place Inv-loop μ-loop) → NextAt (c .before .before .before .before .before .before .before .before .before .before .before .before .args .t1 .source) (endOf (graph c) (c .before .before .before .before .before .before .loop .h)) (c .before .before .before .before .before .before .loop .e) (c .before .before .before .before .before .before .before .before .before .before .before .before .args .t1 .edges) (c .next-place .result)
+edge c =
+    let v = c .before .before .before .before .before .before .loop in
+    let found : c .next-place .result ≡ nextPlace (c .before .before .before .before .before .before .before .before .chain .result .next) (c .before .before .before .before .before .before .before .before .chain .result .first) (endOf (graph c) (v .h)) (v .e) = c .next-place .ensures ∙ ap (λ (x : ℕ). nextPlace (c .before .before .before .before .before .before .before .before .chain .result .next) (c .before .before .before .before .before .before .before .before .chain .result .first) x (v .e)) (end-is (c .before .before .before .before .before)) in
+    subst (NextAt (c .before .before .before .before .before .before .before .before .before .before .before .before .args .t1 .source) (endOf (graph c) (v .h)) (v .e) (c .before .before .before .before .before .before .before .before .before .before .before .before .args .t1 .edges)) (sym found) (next-place (c .before .before .before .before .before .before .before .before .chain .ensures) (node-low (c .before .before .before .before .before)) (before-edges (c .before .before .before .before .before)) (v .inv .1))
 
-reached : (c : tie.After-next-leaving Inv-loop μ-loop) → Filling (graph c) (c .before .before .before .loop .n) (c .before .before .before .loop .h) (c .next-leaving .result) (c .before .before .before .loop .t)
-reached c = filling-to (graph c) (c .before .before .before .before .before .pre .1) (c .before .before .before .loop .inv) (less (c .before .before)) (end-is c)
+reached : (c : tie.After-next-place Inv-loop μ-loop) → Filling (graph c) (c .before .before .before .before .before .before .loop .n) (c .before .before .before .before .before .before .loop .h) (c .next-place .result) (c .before .before .before .before .before .before .loop .t)
+reached c =
+    let g = c .before .before .before .before .before .before .before .before .before .before .before .before .args .t1 in
+    let k = edge c in
+    let within = k .within in
+    filling-to (graph c) (c .before .before .before .before .before .before .before .before .before .before .before .before .pre .1) (c .before .before .before .before .before .before .loop .inv .0) (less (c .before .before .before .before .before)) (k .later) (omega (arith, edges-count (g .edges) (g .source) (g .target))) (λ j a b q. k .none j a b (sym (source-at (g .edges) (g .source) (g .target) j (omega arith)) ∙ q))
 
-edge-in : (c : tie.Then1 Inv-loop μ-loop) → c .before .next-leaving .result < length (graph (c .before) .edges)
-edge-in c = omega (arith, c .if1 .taken, edges-count (c .before .before .before .before .before .before .args .t1 .edges) (c .before .before .before .before .before .before .args .t1 .source) (c .before .before .before .before .before .before .args .t1 .target))
+edge-in : (c : tie.Then1 Inv-loop μ-loop) → c .before .next-place .result < length (graph (c .before) .edges)
+edge-in c = let g = c .before .before .before .before .before .before .before .before .before .before .before .before .before .args .t1 in omega (arith, c .if1 .taken, edges-count (g .edges) (g .source) (g .target))
 
-here : (c : tie.Then1 Inv-loop μ-loop) → source (graph (c .before)) (c .before .next-leaving .result) ≡ endOf (graph (c .before)) (c .before .before .before .before .loop .h)
-here c = end-is (c .before) .leaves (edge-in c)
+here : (c : tie.Then1 Inv-loop μ-loop) → source (graph (c .before)) (c .before .next-place .result) ≡ endOf (graph (c .before)) (c .before .before .before .before .before .before .before .loop .h)
+here c = let g = c .before .before .before .before .before .before .before .before .before .before .before .before .before .args .t1 in source-at (g .edges) (g .source) (g .target) (c .before .next-place .result) (c .if1 .taken) ∙ edge (c .before) .holds (c .if1 .taken)
 
-room : (c : tie.Then1 Inv-loop μ-loop) → c .before .before .before .before .loop .n < 256
-room c = omega (arith, filling-in (graph (c .before)) (c .before .before .before .before .before .before .pre .1) (reached (c .before)) (less (c .before .before .before)) (edge-in c) (here c), c .before .before .before .before .before .before .pre .2, c .before .before .before .before .before .before .pre .3)
+room : (c : tie.Then1 Inv-loop μ-loop) → c .before .before .before .before .before .before .before .loop .n < 256
+room c = omega (arith, filling-in (graph (c .before)) (c .before .before .before .before .before .before .before .before .before .before .before .before .before .pre .1) (reached (c .before)) (less (c .before .before .before .before .before .before)) (edge-in c) (here c), c .before .before .before .before .before .before .before .before .before .before .before .before .before .pre .2)
 
 -- path h is followed by every edge
-all-edges : (c : tie.Else1 Inv-loop μ-loop) → c .before .before .before .before .loop .n ≡ firstOf (graph (c .before)) (c .before .before .before .before .loop .h + 1)
-all-edges c = filling-first (graph (c .before)) (c .before .before .before .before .before .before .pre .1) (reached (c .before)) (less (c .before .before .before)) (omega (arith, c .if1 .left, edges-count (c .before .before .before .before .before .before .args .t1 .edges) (c .before .before .before .before .before .before .args .t1 .source) (c .before .before .before .before .before .before .args .t1 .target)))
+all-edges : (c : tie.Else1 Inv-loop μ-loop) → c .before .before .before .before .before .before .before .loop .n ≡ firstOf (graph (c .before)) (c .before .before .before .before .before .before .before .loop .h + 1)
+all-edges c = let g = c .before .before .before .before .before .before .before .before .before .before .before .before .before .args .t1 in filling-first (graph (c .before)) (c .before .before .before .before .before .before .before .before .before .before .before .before .before .pre .1) (reached (c .before)) (less (c .before .before .before .before .before .before)) (omega (arith, c .if1 .left, edges-count (g .edges) (g .source) (g .target)))
+
+chain-requires : tie.Need-chain-requires Inv-loop μ-loop
+chain-requires c κs =
+    let f = c .before .before .before .pre .0 in
+    let l : length (c .before .before .before .args .t1 .source) ≡ 32 = search needs in
+    record { few = omega (arith, f .edges); long = omega (arith, f .edges); each = λ i h. omega (arith, f .sources i h, f .nodes) }
 
 trivial-paths-requires : tie.Need-trivial-paths-requires Inv-loop μ-loop
-trivial-paths-requires c κs = c .pre .0 .nodes
+trivial-paths-requires c κs = c .before .before .before .before .pre .0 .nodes
 
 loop-holds : tie.Need-loop-holds Inv-loop μ-loop
-loop-holds c = filling-start (graphOf (c .before .args .t1)) (c .before .pre .1) (c .trivial-paths .ensures)
+loop-holds c = (filling-start (graphOf (c .before .before .before .before .before .args .t1)) (c .before .before .before .before .before .pre .1) (c .trivial-paths .ensures), λ h. absurd (omega arith))
 
-element-copy-out-next-leaving : tie.Need-element-copy-out-next-leaving Inv-loop μ-loop
-element-copy-out-next-leaving c = row c
+element-copy-out-node : tie.Need-element-copy-out-node Inv-loop μ-loop
+element-copy-out-node c = row c
 
-next-leaving-requires : tie.Need-next-leaving-requires Inv-loop μ-loop
-next-leaving-requires c κs = (omega (arith, c .before .before .loop .inv .within, edges-count (c .before .before .before .before .args .t1 .edges) (c .before .before .before .before .args .t1 .source) (c .before .before .before .before .args .t1 .target)), c .before .before .before .before .pre .0 .edges)
+next-place-requires : tie.Need-next-place-requires Inv-loop μ-loop
+next-place-requires c κs = let d = c .before .before .before .before in (omega (arith, end-is d, node-low d), omega (arith, before-edges d, c .before .before .before .before .before .before .before .before .before .before .before .pre .0 .edges))
 
 element-copy-out-start : tie.Need-element-copy-out-start Inv-loop μ-loop
-element-copy-out-start c = row (c .before .before .before)
+element-copy-out-start c = row (c .before .before .before .before .before .before)
 
 element-copy-out-longer : tie.Need-element-copy-out-longer Inv-loop μ-loop
-element-copy-out-longer c = row (c .before .before .before .before)
+element-copy-out-longer c = row (c .before .before .before .before .before .before .before)
 
 add-longer : tie.Need-add-longer Inv-loop μ-loop
 add-longer c =
     let G = graph (c .before .before .before) in
-    let v = c .before .before .before .before .before .before .loop in
-    let a = c .before .before .before .before .before .before .before .before .pre .1 in
-    let l = less (c .before .before .before .before .before) in
-    let w = filling-row G a (v .inv) l in
-    omega (arith, v .inv .columns .length .each (v .h) w, length-low G a (v .h) (v .h) (omega arith) l, room (c .before .before), w)
+    let v = c .before .before .before .before .before .before .before .before .before .loop in
+    let a = c .before .before .before .before .before .before .before .before .before .before .before .before .before .before .before .pre .1 in
+    let l = less (c .before .before .before .before .before .before .before .before) in
+    let w = filling-row G a (v .inv .0) l in
+    omega (arith, v .inv .0 .columns .length .each (v .h) w, length-low G a (v .h) (v .h) (omega arith) l, room (c .before .before), w)
 
 element-copy-out-end : tie.Need-element-copy-out-end Inv-loop μ-loop
-element-copy-out-end c = omega (arith, c .before .before .if1 .taken, c .before .before .before .before .before .before .before .before .pre .0 .edges)
+element-copy-out-end c = omega (arith, c .before .before .if1 .taken, c .before .before .before .before .before .before .before .before .before .before .before .before .before .before .before .pre .0 .edges)
 
 element-write-t : tie.Need-element-write-t Inv-loop μ-loop
 element-write-t c = room (c .before .before .before)
@@ -90,13 +115,13 @@ element-write-t-3 : tie.Need-element-write-t-3 Inv-loop μ-loop
 element-write-t-3 c = room (c .before .before .before)
 
 cast-t : tie.Need-cast-t Inv-loop μ-loop
-cast-t c = omega (arith, row (c .before .before .before .before .before .before))
+cast-t c = omega (arith, row (c .before .before .before .before .before .before .before .before .before))
 
 element-write-t-4 : tie.Need-element-write-t-4 Inv-loop μ-loop
 element-write-t-4 c = room (c .before .before .before)
 
 cast-t-2 : tie.Need-cast-t-2 Inv-loop μ-loop
-cast-t-2 c = omega (arith, c .before .before .before .if1 .taken, c .before .before .before .before .before .before .before .before .before .pre .0 .edges)
+cast-t-2 c = omega (arith, c .before .before .before .if1 .taken, c .before .before .before .before .before .before .before .before .before .before .before .before .before .before .before .before .pre .0 .edges)
 
 element-write-t-5 : tie.Need-element-write-t-5 Inv-loop μ-loop
 element-write-t-5 c = room (c .before .before .before)
@@ -105,66 +130,91 @@ add-n : tie.Need-add-n Inv-loop μ-loop
 add-n c = omega (arith, room (c .before .before .before))
 
 add-e : tie.Need-add-e Inv-loop μ-loop
-add-e c = omega (arith, c .before .before .before .if1 .taken, c .before .before .before .before .before .before .before .before .before .pre .0 .edges)
+add-e c = omega (arith, c .before .before .before .if1 .taken, c .before .before .before .before .before .before .before .before .before .before .before .before .before .before .before .before .pre .0 .edges)
 
 loop-less : tie.Need-loop-less Inv-loop μ-loop
-loop-less c = let t = c .before .before .before .if1 .taken in let l = c .before .before .before .before .next-leaving .ensures .later in omega arith
+loop-less c = let t = c .before .before .before .if1 .taken in let l = edge (c .before .before .before .before) .later in omega arith
 
 loop-again : tie.Need-loop-again Inv-loop μ-loop
 loop-again c =
     let G = graph (c .before .before .before .before) in
-    let a = c .before .before .before .before .before .before .before .before .before .pre .1 in
-    let h = c .before .before .before .before .before .before .before .loop .h in
+    let a = c .before .before .before .before .before .before .before .before .before .before .before .before .before .before .before .before .pre .1 in
+    let h = c .before .before .before .before .before .before .before .before .before .before .loop .h in
     let f = reached (c .before .before .before .before) in
-    let l = less (c .before .before .before .before .before .before) in
-    let k = edge-in (c .before .before .before) in
+    let l = less (c .before .before .before .before .before .before .before .before .before) in
+    let k = c .before .before .before .before .next-place .result in
+    let i = edge-in (c .before .before .before) in
     let q = here (c .before .before .before) in
     let m = room (c .before .before .before) in
-    let r = filling-is G a f l k q in
+    let r = filling-is G a f l i q in
     let w = filling-row G a f l in
-    let g = c .before .before .before .before .before .before .before .before .before .args .t1 in
-    record {
-      some = f .some;
-      within = omega arith;
-      fresh = λ x. absurd (omega arith);
-      next = filling-more G a f l k q;
-      columns = record {
-        start = filled-more (f .columns .start) m (f .columns .start .each h w ∙ sym (r .start));
-        end = filled-more (f .columns .end) m (sym (r .end ∙ target-at (g .edges) (g .source) (g .target) (c .before .before .before .before .next-leaving .result) (c .before .before .before .if1 .taken)));
-        length = filled-more (f .columns .length) m (ap (λ (x : ℕ). x + 1) (f .columns .length .each h w) ∙ sym (r .length));
-        parent = filled-more (f .columns .parent) m (sym (r .parent));
-        last = filled-more (f .columns .last) m (sym (r .last));
-      };
-      first = f .first;
-    }
+    let g = c .before .before .before .before .before .before .before .before .before .before .before .before .before .before .before .before .args .t1 in
+    let z : k + 1 - 1 ≡ k = omega arith in (
+      record {
+        some = f .some;
+        low = omega (arith, filling-in G a f l i q);
+        within = omega arith;
+        fresh = λ x. absurd (omega arith);
+        next = filling-more G a f l i q;
+        columns = record {
+          start = filled-more (f .columns .start) m (f .columns .start .each h w ∙ sym (r .start));
+          end = filled-more (f .columns .end) m (sym (r .end ∙ target-at (g .edges) (g .source) (g .target) k (c .before .before .before .if1 .taken)));
+          length = filled-more (f .columns .length) m (ap (λ (x : ℕ). x + 1) (f .columns .length .each h w) ∙ sym (r .length));
+          parent = filled-more (f .columns .parent) m (sym (r .parent));
+          last = filled-more (f .columns .last) m (sym (r .last));
+        };
+        first = f .first;
+      },
+      λ _. ap (λ (x : ℕ). getD (g .source) x 0) z ∙ edge (c .before .before .before .before) .holds (c .before .before .before .if1 .taken),
+    )
 
 add-h : tie.Need-add-h Inv-loop μ-loop
-add-h c = let p = c .before .before .before .before .before .before .pre .3 in omega arith
+add-h c = omega (arith, row (c .before .before .before .before .before .before))
 
 cast-t-3 : tie.Need-cast-t-3 Inv-loop μ-loop
-cast-t-3 c = omega (arith, all-edges c, first-low (graph (c .before)) (c .before .before .before .before .before .before .pre .1) (c .before .before .before .before .loop .h + 1), c .before .before .before .before .before .before .pre .2, c .before .before .before .before .before .before .pre .3)
+cast-t-3 c = omega (arith, c .before .before .before .before .before .before .before .loop .inv .0 .low, c .before .before .before .before .before .before .before .before .before .before .before .before .before .pre .2)
 
 mul-t : tie.Need-mul-t Inv-loop μ-loop
-mul-t c = let p = c .before .before .before .before .before .before .pre .3 in omega arith
+mul-t c = omega (arith, row (c .before .before .before .before .before .before))
 
 element-write-t-6 : tie.Need-element-write-t-6 Inv-loop μ-loop
-element-write-t-6 c = let p = c .before .before .before .before .before .before .pre .3 in omega arith
+element-write-t-6 c = omega (arith, row (c .before .before .before .before .before .before))
 
 loop-less-2 : tie.Need-loop-less-2 Inv-loop μ-loop
-loop-less-2 c = let f = c .before .before .before .before .before .before .pre .0 .edges in let x = c .before .before .before .loop-test .taken in omega arith
+loop-less-2 c = let f = c .before .before .before .before .before .before .before .before .before .before .before .before .before .pre .0 .edges in let l = less (c .before .before .before .before .before .before) in omega arith
 
 loop-again-2 : tie.Need-loop-again-2 Inv-loop μ-loop
 loop-again-2 c =
-    let f = c .before .before .before .before .loop .inv in
-    let k = f .columns in
-    record { some = omega (arith, less (c .before .before .before)); within = omega arith; fresh = λ _. refl; next = omega (arith, all-edges c); columns = record { start = k .start; end = k .end; length = k .length; parent = k .parent; last = k .last }; first = filled-more (f .first) (omega (arith, row (c .before .before .before))) (all-edges c) }
+    let f = c .before .before .before .before .before .before .before .loop .inv .0 in
+    let k = f .columns in (
+      record {
+        some = omega (arith, less (c .before .before .before .before .before .before));
+        low = f .low;
+        within = omega arith;
+        fresh = λ _. refl;
+        next = omega (arith, all-edges c);
+        columns = record { start = k .start; end = k .end; length = k .length; parent = k .parent; last = k .last };
+        first = filled-more (f .first) (omega (arith, row (c .before .before .before .before .before .before))) (all-edges c);
+      },
+      λ h. absurd (omega arith),
+    )
+
+rank-edges-requires : tie.Need-rank-edges-requires Inv-loop μ-loop
+rank-edges-requires c κs = c .before .before .before .before .before .before .before .pre .0
 
 returns : tie.Need-returns Inv-loop μ-loop
 returns c =
-    let G = graphOf (c .before .before .before .args .t1) in
-    let d = filling-done G (c .before .before .before .pre .1) (c .before .loop .inv) (omega (arith, c .loop-test .left, c .before .before .before .pre .2)) in
-    let e = c .before .before .before .pre .2 in
-    record { columns = subst (λ (x : ℕ). Columns G x (c .before .loop .t)) (d .1 ∙ sym e) (c .before .loop .inv .columns); first = subst (λ (x : ℕ). Filled 257 (firstOf G) (x + 1) (c .before .loop .t .first)) (d .0 ∙ sym e) (c .before .loop .inv .first) }
+    let G = graphOf (c .before .before .before .before .before .before .before .before .args .t1) in
+    let v = c .before .before .loop in
+    let k = v .inv .0 .columns in
+    let d = filling-done G (c .before .before .before .before .before .before .before .before .pre .1) (v .inv .0) (c .before .loop-test .left) in
+    record {
+      counted = d .1;
+      few = omega (arith, d .1, c .before .before .before .before .before .before .before .before .pre .2);
+      columns = record { start = k .start; end = k .end; length = k .length; parent = k .parent; last = k .last };
+      first = subst (λ (x : ℕ). Filled 257 (firstOf G) (x + 1) (v .t .first)) (d .0 ∙ sym (d .1)) (v .inv .0 .first);
+      rank = c .rank-edges .ensures;
+    }
 
 pub fill-spec : {M : Type 1} → statement M
 fill-spec =
@@ -172,10 +222,11 @@ fill-spec =
     (tie.spec
     Inv-loop
     μ-loop
+    chain-requires
     trivial-paths-requires
     loop-holds
-    element-copy-out-next-leaving
-    next-leaving-requires
+    element-copy-out-node
+    next-place-requires
     element-copy-out-start
     element-copy-out-longer
     add-longer
@@ -197,4 +248,5 @@ fill-spec =
     element-write-t-6
     loop-less-2
     loop-again-2
+    rank-edges-requires
     returns)
