@@ -36,7 +36,7 @@ returns-2 c =
     faulty-says (c .faulty2 .ensures) (λ q. omega arith) (rw (w, h, crowd _ (c .before .before .before .before .count-paths .ensures .paths) (omega (arith, c .before .before .if2 .taken))))
 
 has-loop-requires : tie.Need-has-loop-requires
-has-loop-requires c κs = search needs
+has-loop-requires c κs = fit (c .before .before .before .before .before .before .pre .0) (sym (c .before .before .before .before .before .is-well-formed .ensures) ∙ c .before .before .before .before .if1 .taken)
 
 faulty-requires-3 : tie.Need-faulty-requires-3
 faulty-requires-3 c κs = search needs
