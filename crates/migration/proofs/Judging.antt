@@ -17,8 +17,7 @@ use Rattle.meaning.specs.Calls as meaning
 use Rattle.meaning.specs.Calls.{Outcome, refused, accepted, _>>=_, judgeRaw, judgePushed}
 use Rattle.schema.specs.Decoded.{frontOf}
 use Rattle.instance.specs.declared.Instance.{Instance}
-use Rattle.instance.specs.Decoded.{tablesOf, Room}
-use Rattle.instance.proofs.Rooms.{room-for}
+use Rattle.instance.specs.Decoded.{tablesOf, RoomFor}
 use Rattle.delta.specs.Pulled.{deltaOf, Pulled}
 use Rattle.sigma.specs.Pushed.{Pushed}
 use Rattle.matching.specs.Compared.{partnersOf, Comparable}
@@ -72,13 +71,13 @@ module _ {x : Sides} {links values links′ values′ : List ℕ} (M : Migratabl
 
   -- ---- the pushed side: p stands in working arrays with all its tables
   module _ {p : Instance} {followed copied : List ℕ} (P : Pushed (x .opened .source) (x .opened .target) (x .opened .mapping) (x .run) links values p followed copied) where
-    pub pushed-comparable : {list : List ℕ} → Room followed copied → Room links′ values′ → 512 ≤ length list → Comparable (x .opened .target) p followed copied (x .book) links′ values′ list
+    pub pushed-comparable : {list : List ℕ} → RoomFor (x .opened .target) followed copied → RoomFor (x .opened .target) links′ values′ → 512 ≤ length list → Comparable (x .opened .target) p followed copied (x .book) links′ values′ list
     pushed-comparable r r′ l = record {
       sound = M .ready .schemas .target;
       limits = record { rows = subst (λ (J : formats.Instance). sumOf (J .counts) ≤ 512) (sym (P .says)) (pushed-valid M .few-rows); long = P .long };
       limits′ = M .book-limits;
-      room = room-for (M .ready .schemas .target) r;
-      room′ = room-for (M .ready .schemas .target) r′;
+      room = r;
+      room′ = r′;
       links-in = subst (λ (J : formats.Instance). linksInRange (y .m .T) J ≡ true) (sym (P .says)) (pushed-links-in M);
       long = l;
     }

@@ -6,7 +6,7 @@ use mathlib.Core.List.{List}
 use native.Mathlib.Omega.{arith}
 use Rattle.meaning.specs.Judge.{judgeInstance}
 use Rattle.meaning.specs.Evenness.{even}
-use Rattle.meaning.specs.Calls.{Outcome, accepted, at, ensure, Migration, migration, _>>=_}
+use Rattle.meaning.specs.Calls.{Outcome, accepted, at, ensure, Migration, _>>=_}
 use Rattle.schema.specs.Decoded.{schemaOf}
 use Rattle.mapping.specs.Decoded.{mappingOf}
 use Rattle.instance.specs.declared.Instance.{Instance}
@@ -48,7 +48,7 @@ module _ (o : Opened) {M : Outcome Migration} (O : Opens o M) (run : Instance) (
   }
 
 -- ---- a mapping, a run and a book
-module _ (o : Opened) (s t f : List ℕ) (O : Opens o (migration s t f)) (run book : Instance) (links values links′ values′ i j : List ℕ)
+module _ (o : Opened) {M : Outcome Migration} (O : Opens o M) (run book : Instance) (links values links′ values′ i j : List ℕ)
     (I : Tested (o .source) run links values (judgeInstance (schemaOf (o .source)) i)) (J : Tested (o .target) book links′ values′ (judgeInstance (schemaOf (o .target)) j)) where
   abbrev is-even : Bool
   is-even = even (schemaOf (o .source)) (schemaOf (o .target)) (mappingOf (o .source) (o .mapping))
@@ -68,7 +68,7 @@ module _ (o : Opened) (s t f : List ℕ) (O : Opens o (migration s t f)) (run bo
   abbrev sheets : Refusal
   sheets = orNext (orNext (o .refusal) run-refusal) book-refusal
 
-  inputs-told : outcomeOf (orNext sheets evenness) result ≡ inputs s t f i j
+  inputs-told : outcomeOf (orNext sheets evenness) result ≡ inputs M i j
   inputs-told =
       rw (or-assoc (orNext (o .refusal) run-refusal) book-refusal evenness, or-assoc (o .refusal) run-refusal (orNext book-refusal evenness)) (
       then (o .refusal) (migrationOf o) (O .says) (orNext run-refusal (orNext book-refusal evenness)) result (λ m. do
@@ -86,7 +86,7 @@ module _ (o : Opened) (s t f : List ℕ) (O : Opens o (migration s t f)) (run bo
       (yields evenness tt (tested is-even 12 (λ e. omega arith)) (λ _. result)))))
 
   module _ {r : Refusal} (e : r ≡ sheets) where
-    told : {q : Refusal} → orNext r evenness ≡ q → outcomeOf q result ≡ inputs s t f i j
+    told : {q : Refusal} → orNext r evenness ≡ q → outcomeOf q result ≡ inputs M i j
     told d = ap (λ (r : Refusal). outcomeOf r result) (sym d ∙ ap (λ (r : Refusal). orNext r evenness) e) ∙ inputs-told
 
     module _ (z : r .number ≡ 0) where
@@ -96,9 +96,10 @@ module _ (o : Opened) (s t f : List ℕ) (O : Opens o (migration s t f)) (run bo
       pub sides-ready : Ready o
       sides-ready = O .ready (none-first (o .refusal) run-refusal (none-first (orNext (o .refusal) run-refusal) book-refusal none))
 
-      pub sides-open : {n : ℕ} → n ≡ cond is-even 0 12 → SidesSay (record { refusal = refusal n 0; opened = o; run = run; book = book }) links values links′ values′ (inputs s t f i j)
+      pub sides-open : {n : ℕ} → n ≡ cond is-even 0 12 → SidesSay o (record { refusal = refusal n 0; opened = o; run = run; book = book }) links values links′ values′ (inputs M i j)
       sides-open d = record {
         says = ap (λ (n : ℕ). outcomeOf (refusal n 0) result) d ∙ told (or-none r evenness z);
+        same = refl;
         migratable = λ w. record {
           ready = sides-ready;
           run-limits = I .limits;
@@ -109,5 +110,5 @@ module _ (o : Opened) (s t f : List ℕ) (O : Opens o (migration s t f)) (run bo
         };
       }
 
-    pub sides-stopped : (r .number ≡ 0 → ⊥) → SidesSay (record { refusal = r; opened = o; run = run; book = book }) links values links′ values′ (inputs s t f i j)
-    sides-stopped some = record { says = told (or-some r evenness some); migratable = λ w. absurd (some w) }
+    pub sides-stopped : (r .number ≡ 0 → ⊥) → SidesSay o (record { refusal = r; opened = o; run = run; book = book }) links values links′ values′ (inputs M i j)
+    sides-stopped some = record { says = told (or-some r evenness some); same = refl; migratable = λ w. absurd (some w) }

@@ -9,11 +9,12 @@ use Rattle.meaning.specs.Evenness.{even}
 use Rattle.meaning.specs.Delta.{delta}
 use Rattle.meaning.specs.Sigma.{sigma}
 use Rattle.meaning.specs.Calls as meaning
-use Rattle.meaning.specs.Calls.{Outcome, accepted, _>>=_, at, ensure, ensureFits, Migration, migration}
+use Rattle.meaning.specs.Calls.{Outcome, accepted, _>>=_, at, ensure, ensureFits, Migration}
 use Rattle.schema.specs.Decoded.{schemaOf}
 use Rattle.mapping.specs.Decoded.{mappingOf}
-use Rattle.instance.specs.Decoded.{tablesOf, Limits}
+use Rattle.instance.specs.Decoded.{tablesOf, Limits, RoomFor}
 use Rattle.instance.specs.Tested.{Accepted}
+use Rattle.migration.specs.declared.open.Opened.{Opened}
 use Rattle.migration.specs.declared.sides.Sides.{Sides}
 use Rattle.migration.specs.Answers.{outcomeOf}
 use Rattle.migration.specs.Opened.{migrationOf, Ready}
@@ -25,9 +26,9 @@ pub record Inputs : Type 0 where
   pub book : formats.Instance
 
 -- the tests before any table is migrated
-abbrev pub inputs : List ℕ → List ℕ → List ℕ → List ℕ → List ℕ → Outcome Inputs
-inputs s t f i j = do
-  m ← migration s t f
+abbrev pub inputs : Outcome Migration → List ℕ → List ℕ → Outcome Inputs
+inputs M i j = do
+  m ← M
   I ← at 4 (judgeInstance (m .S) i)
   J ← at 5 (judgeInstance (m .T) j)
   _ ← ensure (even (m .S) (m .T) (m .F)) 12
@@ -62,6 +63,14 @@ pub record Migratable (x : Sides) (links values links′ values′ : List ℕ) :
   pub book : Accepted (x .opened .target) (x .book) links′ values′
   pub is-even : even (schemaOf (x .opened .source)) (schemaOf (x .opened .target)) (mappingOf (x .opened .source) (x .opened .mapping)) ≡ true
 
-pub record SidesSay (x : Sides) (links values links′ values′ : List ℕ) (X : Outcome Inputs) : Type 0 where
+pub record SidesSay (o : Opened) (x : Sides) (links values links′ values′ : List ℕ) (X : Outcome Inputs) : Type 0 where
   pub says : outcomeOf (x .refusal) (inputsOf x links values links′ values′) ≡ X
+  pub same : x .opened ≡ o
   pub migratable : (x .refusal .number ≡ 0 → Migratable x links values links′ values′)
+
+-- room for the run, for the book, and for Sigma of the run or Delta of the book
+pub record Rooms (o : Opened) (links values links′ values′ made-links made-values : List ℕ) : Type 0 where
+  pub run : RoomFor (o .source) links values
+  pub book : RoomFor (o .target) links′ values′
+  pub pushed : RoomFor (o .target) made-links made-values
+  pub pulled : RoomFor (o .source) made-links made-values

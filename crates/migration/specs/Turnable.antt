@@ -29,9 +29,9 @@ abbrev pub turnable : Inputs → List ℕ → Turnable
 turnable y l = record { m = y .m; counts = y .run .counts; list = l }
 
 -- the tests of a side
-abbrev pub matchedSide : Side → List ℕ → List ℕ → List ℕ → List ℕ → List ℕ → List ℕ → Outcome Turnable
-matchedSide side s t f i j k = do
-  y ← inputs s t f i j
+abbrev pub matchedSide : Side → Outcome Migration → List ℕ → List ℕ → List ℕ → Outcome Turnable
+matchedSide side M i j k = do
+  y ← inputs M i j
   l ← sideList side y k
   accepted (turnable y l)
 

@@ -1,5 +1,8 @@
 // The tests of matchings: the judge of a matching sheet, and all tests of a checker or a turning before the tray.
 use crate::Refusal;
+use crate::open::Opened;
+use crate::open::have_few_columns;
+use crate::open::open;
 use crate::results::overfull;
 use crate::sides::Sides;
 use crate::sides::open_sides;
@@ -9,14 +12,17 @@ use instance::decode::total;
 use matching::is_matching;
 use schema::Schema;
 ghost use mathlib.Core.Path.{_≡_};
+ghost use mathlib.Core.Bool.{true};
 ghost use Prim.Native.Nat.{_≤_};
 ghost use lib.ListN.{length};
 ghost use Rattle.meaning.specs.Matching.{judgeMatching};
+ghost use Rattle.meaning.specs.Calls.{migration};
 ghost use Rattle.schema.specs.Decoded.{schemaOf};
-ghost use Rattle.instance.specs.Decoded.{tablesOf, Room};
+ghost use Rattle.instance.specs.Decoded.{tablesOf};
 ghost use Rattle.matching.specs.Compared.{partnersOf, Comparable};
 ghost use Rattle.migration.specs.Answers.{outcomeOf};
-ghost use Rattle.migration.specs.Sides.{inputsOf, Migratable};
+ghost use Rattle.migration.specs.Opened.{openedOf, haveFewColumns, IsOpened};
+ghost use Rattle.migration.specs.Sides.{inputsOf, Migratable, Rooms};
 ghost use Rattle.migration.specs.Matched.{judgedMatching, pushedList, rawList, sideList};
 ghost use Rattle.migration.specs.Turnable.{matchedSide, Matches};
 
@@ -57,12 +63,12 @@ fn judge_pushed(
     book_values: &[u32],
     sheet: &[u8],
     list: &mut [u32],
+    links: &mut [u32],
+    values: &mut [u32],
 ) -> Refusal
-    requires { ⌜ Migratable x (now «run_links») (now «run_values») (now «book_links») (now «book_values») × Room (now «run_links») (now «run_values») × Room (now «book_links») (now «book_values») × (512 ≤ length (now list)) ⌝ }
+    requires { ⌜ Migratable x (now «run_links») (now «run_values») (now «book_links») (now «book_values») × Rooms (x .opened) (now «run_links») (now «run_values») (now «book_links») (now «book_values») (now links) (now values) × (512 ≤ length (now list)) ⌝ }
     ensures { λ r. ⌜ outcomeOf r (partnersOf (x .opened .source) (x .run) (now (list .exit))) ≡ pushedList (inputsOf x (now («run_links» .entry)) (now («run_values» .entry)) (now («book_links» .entry)) (now («book_values» .entry))) (now (sheet .entry)) ⌝ }
 {
-    let mut links = [0u32; Instance::LINKS];
-    let mut values = [0u32; Instance::VALUES];
     let opened = x.opened;
     let source = opened.source;
     let target = opened.target;
@@ -82,15 +88,15 @@ fn judge_pushed(
             run,
             run_links,
             run_values,
-            &mut links,
-            &mut values,
+            &mut *links,
+            &mut *values,
         );
         return Refusal {
             number: judge_matching(
                 target,
                 pushed,
-                &links,
-                &values,
+                &*links,
+                &*values,
                 book,
                 book_links,
                 book_values,
@@ -115,12 +121,12 @@ fn judge_raw(
     book_values: &[u32],
     sheet: &[u8],
     list: &mut [u32],
+    links: &mut [u32],
+    values: &mut [u32],
 ) -> Refusal
-    requires { ⌜ Migratable x (now «run_links») (now «run_values») (now «book_links») (now «book_values») × Room (now «run_links») (now «run_values») × Room (now «book_links») (now «book_values») × (512 ≤ length (now list)) ⌝ }
+    requires { ⌜ Migratable x (now «run_links») (now «run_values») (now «book_links») (now «book_values») × Rooms (x .opened) (now «run_links») (now «run_values») (now «book_links») (now «book_values») (now links) (now values) × (512 ≤ length (now list)) ⌝ }
     ensures { λ r. ⌜ outcomeOf r (partnersOf (x .opened .source) (x .run) (now (list .exit))) ≡ rawList (inputsOf x (now («run_links» .entry)) (now («run_values» .entry)) (now («book_links» .entry)) (now («book_values» .entry))) (now (sheet .entry)) ⌝ }
 {
-    let mut links = [0u32; Instance::LINKS];
-    let mut values = [0u32; Instance::VALUES];
     let opened = x.opened;
     let source = opened.source;
     let target = opened.target;
@@ -133,8 +139,8 @@ fn judge_raw(
         book,
         book_links,
         book_values,
-        &mut links,
-        &mut values,
+        &mut *links,
+        &mut *values,
     );
     let size = overfull(source, pulled);
     if size == 0 {
@@ -146,8 +152,8 @@ fn judge_raw(
                 run_links,
                 run_values,
                 pulled,
-                &links,
-                &values,
+                &*links,
+                &*values,
                 sheet,
                 &mut *list,
             ),
@@ -176,8 +182,10 @@ fn judge_side(
     book_values: &[u32],
     sheet: &[u8],
     list: &mut [u32],
+    links: &mut [u32],
+    values: &mut [u32],
 ) -> Refusal
-    requires { ⌜ Migratable x (now «run_links») (now «run_values») (now «book_links») (now «book_values») × Room (now «run_links») (now «run_values») × Room (now «book_links») (now «book_values») × (512 ≤ length (now list)) ⌝ }
+    requires { ⌜ Migratable x (now «run_links») (now «run_values») (now «book_links») (now «book_values») × Rooms (x .opened) (now «run_links») (now «run_values») (now «book_links») (now «book_values») (now links) (now values) × (512 ≤ length (now list)) ⌝ }
     ensures { λ r. ⌜ outcomeOf r (partnersOf (x .opened .source) (x .run) (now (list .exit))) ≡ sideList side (inputsOf x (now («run_links» .entry)) (now («run_values» .entry)) (now («book_links» .entry)) (now («book_values» .entry))) (now (sheet .entry)) ⌝ }
 {
     match side {
@@ -189,6 +197,8 @@ fn judge_side(
             book_values,
             sheet,
             &mut *list,
+            &mut *links,
+            &mut *values,
         ),
         Side::Raw => judge_raw(
             x,
@@ -198,8 +208,117 @@ fn judge_side(
             book_values,
             sheet,
             &mut *list,
+            &mut *links,
+            &mut *values,
         ),
     }
+}
+
+// The tests of a side of opened sheets, up to the matching sheet k, in working arrays of any length that does.
+fn match_in(
+    side: Side,
+    opened: Opened,
+    i: &[u8],
+    j: &[u8],
+    k: &[u8],
+    list: &mut [u32],
+    run_links: &mut [u32],
+    run_values: &mut [u32],
+    book_links: &mut [u32],
+    book_values: &mut [u32],
+    links: &mut [u32],
+    values: &mut [u32],
+) -> Sides
+    requires { ⌜ IsOpened opened × Rooms opened (now «run_links») (now «run_values») (now «book_links») (now «book_values») (now links) (now values) × (512 ≤ length (now list)) ⌝ }
+    ensures { λ r. ⌜ Matches r (now (list .exit)) (matchedSide side (openedOf opened) (now (i .entry)) (now (j .entry)) (now (k .entry))) ⌝ }
+{
+    let x = open_sides(
+        opened,
+        i,
+        j,
+        &mut *run_links,
+        &mut *run_values,
+        &mut *book_links,
+        &mut *book_values,
+    );
+    let first = x.refusal;
+    if first.number == 0 {
+        let opened = x.opened;
+        let run = x.run;
+        let book = x.book;
+        return Sides {
+            refusal: judge_side(
+                side,
+                x,
+                &*run_links,
+                &*run_values,
+                &*book_links,
+                &*book_values,
+                k,
+                &mut *list,
+                &mut *links,
+                &mut *values,
+            ),
+            opened: opened,
+            run: run,
+            book: book,
+        };
+    }
+    x
+}
+
+// The same for schemas with few columns.
+fn match_few(side: Side, opened: Opened, i: &[u8], j: &[u8], k: &[u8], list: &mut [u32]) -> Sides
+    requires { ⌜ IsOpened opened × (haveFewColumns opened ≡ true) × (512 ≤ length (now list)) ⌝ }
+    ensures { λ r. ⌜ Matches r (now (list .exit)) (matchedSide side (openedOf opened) (now (i .entry)) (now (j .entry)) (now (k .entry))) ⌝ }
+{
+    let mut run_links = [0u32; Instance::FEW_LINKS];
+    let mut run_values = [0u32; Instance::FEW_VALUES];
+    let mut book_links = [0u32; Instance::FEW_LINKS];
+    let mut book_values = [0u32; Instance::FEW_VALUES];
+    let mut links = [0u32; Instance::FEW_LINKS];
+    let mut values = [0u32; Instance::FEW_VALUES];
+    match_in(
+        side,
+        opened,
+        i,
+        j,
+        k,
+        &mut *list,
+        &mut run_links,
+        &mut run_values,
+        &mut book_links,
+        &mut book_values,
+        &mut links,
+        &mut values,
+    )
+}
+
+// The same for any schemas.
+fn match_any(side: Side, opened: Opened, i: &[u8], j: &[u8], k: &[u8], list: &mut [u32]) -> Sides
+    requires { ⌜ IsOpened opened × (512 ≤ length (now list)) ⌝ }
+    ensures { λ r. ⌜ Matches r (now (list .exit)) (matchedSide side (openedOf opened) (now (i .entry)) (now (j .entry)) (now (k .entry))) ⌝ }
+{
+    let mut run_links = [0u32; Instance::LINKS];
+    let mut run_values = [0u32; Instance::VALUES];
+    let mut book_links = [0u32; Instance::LINKS];
+    let mut book_values = [0u32; Instance::VALUES];
+    let mut links = [0u32; Instance::LINKS];
+    let mut values = [0u32; Instance::VALUES];
+    match_in(
+        side,
+        opened,
+        i,
+        j,
+        k,
+        &mut *list,
+        &mut run_links,
+        &mut run_values,
+        &mut book_links,
+        &mut book_values,
+        &mut links,
+        &mut values,
+    )
 }
 
 // The tests of a side, up to the matching sheet k; where they are passed, the partners stand in list.
@@ -214,43 +333,11 @@ pub(crate) fn match_side(
     list: &mut [u32],
 ) -> Sides
     requires { ⌜ 512 ≤ length (now list) ⌝ }
-    ensures { λ r. ⌜ Matches r (now (list .exit)) (matchedSide side (now (s .entry)) (now (t .entry)) (now (f .entry)) (now (i .entry)) (now (j .entry)) (now (k .entry))) ⌝ }
+    ensures { λ r. ⌜ Matches r (now (list .exit)) (matchedSide side (migration (now (s .entry)) (now (t .entry)) (now (f .entry))) (now (i .entry)) (now (j .entry)) (now (k .entry))) ⌝ }
 {
-    let mut run_links = [0u32; Instance::LINKS];
-    let mut run_values = [0u32; Instance::VALUES];
-    let mut book_links = [0u32; Instance::LINKS];
-    let mut book_values = [0u32; Instance::VALUES];
-    let x = open_sides(
-        s,
-        t,
-        f,
-        i,
-        j,
-        &mut run_links,
-        &mut run_values,
-        &mut book_links,
-        &mut book_values,
-    );
-    let first = x.refusal;
-    if first.number == 0 {
-        let opened = x.opened;
-        let run = x.run;
-        let book = x.book;
-        return Sides {
-            refusal: judge_side(
-                side,
-                x,
-                &run_links,
-                &run_values,
-                &book_links,
-                &book_values,
-                k,
-                &mut *list,
-            ),
-            opened: opened,
-            run: run,
-            book: book,
-        };
+    let opened = open(s, t, f);
+    if have_few_columns(opened) {
+        return match_few(side, opened, i, j, k, &mut *list);
     }
-    x
+    match_any(side, opened, i, j, k, &mut *list)
 }

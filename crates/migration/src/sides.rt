@@ -1,11 +1,11 @@
 // The sheets of a mapping, a run and a book, which checkers and turnings open first.
 use crate::Refusal;
 use crate::open::Opened;
-use crate::open::open;
 use crate::open::uneven;
 use instance::Instance;
 use instance::judge_instance;
-ghost use Rattle.instance.specs.Decoded.{Room};
+ghost use Rattle.instance.specs.Decoded.{RoomFor};
+ghost use Rattle.migration.specs.Opened.{openedOf, IsOpened};
 ghost use Rattle.migration.specs.Sides.{inputs, SidesSay};
 
 // What the five sheets say, where the refusal is none. Links and values of the run and the book stand in working arrays.
@@ -16,11 +16,9 @@ pub struct Sides {
     pub book: Instance,
 }
 
-// The sheets at places 1 to 5, judged, and the mapping's evenness.
+// The sheets at places 4 and 5, judged after those of S, T and the mapping, and the mapping's evenness.
 pub(crate) fn open_sides(
-    s: &[u8],
-    t: &[u8],
-    f: &[u8],
+    opened: Opened,
     i: &[u8],
     j: &[u8],
     run_links: &mut [u32],
@@ -28,10 +26,9 @@ pub(crate) fn open_sides(
     book_links: &mut [u32],
     book_values: &mut [u32],
 ) -> Sides
-    requires { ⌜ Room (now «run_links») (now «run_values») × Room (now «book_links») (now «book_values») ⌝ }
-    ensures { λ r. ⌜ SidesSay r (now («run_links» .exit)) (now («run_values» .exit)) (now («book_links» .exit)) (now («book_values» .exit)) (inputs (now (s .entry)) (now (t .entry)) (now (f .entry)) (now (i .entry)) (now (j .entry))) ⌝ }
+    requires { ⌜ IsOpened opened × RoomFor (opened .source) (now «run_links») (now «run_values») × RoomFor (opened .target) (now «book_links») (now «book_values») ⌝ }
+    ensures { λ r. ⌜ SidesSay opened r (now («run_links» .exit)) (now («run_values» .exit)) (now («book_links» .exit)) (now («book_values» .exit)) (inputs (openedOf opened) (now (i .entry)) (now (j .entry))) ⌝ }
 {
-    let opened = open(s, t, f);
     let source = opened.source;
     let target = opened.target;
     let run = judge_instance(source, i, &mut *run_links, &mut *run_values);

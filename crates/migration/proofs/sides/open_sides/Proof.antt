@@ -1,6 +1,5 @@
 -- `migration::sides::open_sides` meets its contract.
 use mathlib.Core.Path.{_≡_, ap, _∙_}
-use Rattle.instance.proofs.Rooms.{room-for}
 use Rattle.migration.specs.declared.Refusal.{Refusal}
 use Rattle.migration.specs.Answers.{orNext}
 use Rattle.migration.proofs.Refusing.{refusal}
@@ -10,17 +9,14 @@ use Rattle.migration.proofs.sides.open_sides.Statement.{statement}
 use Rattle.migration.proofs.sides.open_sides.Tie as tie
 
 -- the first refusal of the sheets
-joined : (c : tie.After-struct-known) → c .before .or2 .result ≡ orNext (orNext (c .before .before .before .before .before .before .before .before .before .before .before .before .before .before .before .before .before .before .before .before .«open» .result .refusal) (refusal (c .before .before .before .before .before .before .before .before .before .before .before .before .before .before .before .judge-instance .result .fault) 4)) (refusal (c .before .before .before .before .before .before .before .before .judge-instance2 .result .fault) 5)
+joined : (c : tie.After-struct-known) → c .before .or2 .result ≡ orNext (orNext (c .before .before .before .before .before .before .before .before .before .before .before .before .before .before .before .before .before .before .before .before .before .before .before .before .before .before .args .opened .refusal) (refusal (c .before .before .before .before .before .before .before .before .before .before .before .before .before .before .before .judge-instance .result .fault) 4)) (refusal (c .before .before .before .before .before .before .before .before .judge-instance2 .result .fault) 5)
 joined c = c .before .or2 .ensures ∙ ap (λ (r : Refusal). orNext r (refusal (c .before .before .before .before .before .before .before .before .judge-instance2 .result .fault) 5)) (c .before .before .or .ensures)
 
-open-requires : tie.Need-open-requires
-open-requires c κs = search needs
-
 judge-instance-requires : tie.Need-judge-instance-requires
-judge-instance-requires c κs = let S = c .before .before .before .before .«open» .ensures .schemas .source in (S, room-for S (c .before .before .before .before .before .before .before .before .before .before .before .before .before .before .pre .0))
+judge-instance-requires c κs = search needs
 
 judge-instance-requires-2 : tie.Need-judge-instance-requires-2
-judge-instance-requires-2 c κs = let T = c .before .before .before .before .before .before .before .before .before .before .before .«open» .ensures .schemas .target in (T, room-for T (c .before .before .before .before .before .before .before .before .before .before .before .before .before .before .before .before .before .before .before .before .before .pre .1))
+judge-instance-requires-2 c κs = search needs
 
 or-requires : tie.Need-or-requires
 or-requires c κs = search needs
@@ -30,11 +26,11 @@ or-requires-2 c κs = search needs
 
 uneven-requires : tie.Need-uneven-requires
 uneven-requires c κs =
-    let o = c .before .before .before .before .before .before .before .before .before .before .before .before .before .before .before .before .before .before .before .before .before .«open» in
     let i = c .before .before .before .before .before .before .before .before .before .before .before .before .before .before .before .before .judge-instance in
     let j = c .before .before .before .before .before .before .before .before .before .judge-instance2 in
-    let a = c .before .before .before .before .before .before .before .before .before .before .before .before .before .before .before .before .before .before .before .before .before .before .before .before .before .before .before .before .before .before .before .args in
-    sides-ready (o .result) (a .s .now) (a .t .now) (a .f .now) (o .ensures) (i .result) (j .result) (i .last .1 .1 .0) (i .last .1 .1 .1 .0) (j .last .1 .1 .0) (j .last .1 .1 .1 .0) (a .i .now) (a .j .now) (i .ensures) (j .ensures) (joined (c .before)) (c .if1 .taken)
+    let a = c .before .before .before .before .before .before .before .before .before .before .before .before .before .before .before .before .before .before .before .before .before .before .before .before .before .before .before .args in
+    let O = c .before .before .before .before .before .before .before .before .before .before .before .before .before .before .before .before .before .before .before .before .before .before .before .before .before .before .before .pre .0 in
+    sides-ready (a .opened) O (i .result) (j .result) (i .last .1 .1 .0) (i .last .1 .1 .1 .0) (j .last .1 .1 .0) (j .last .1 .1 .1 .0) (a .i .now) (a .j .now) (i .ensures) (j .ensures) (joined (c .before)) (c .if1 .taken)
 
 same-length : tie.Need-same-length
 same-length c = search needs
@@ -50,11 +46,11 @@ same-length-4 c = search needs
 
 returns : tie.Need-returns
 returns c =
-    let o = c .before .before .before .before .before .before .before .before .before .before .before .before .before .before .before .before .before .before .before .before .before .before .«open» in
     let i = c .before .before .before .before .before .before .before .before .before .before .before .before .before .before .before .before .before .judge-instance in
     let j = c .before .before .before .before .before .before .before .before .before .before .judge-instance2 in
-    let a = c .before .before .before .before .before .before .before .before .before .before .before .before .before .before .before .before .before .before .before .before .before .before .before .before .before .before .before .before .before .before .before .before .args in
-    sides-open (o .result) (a .s .now) (a .t .now) (a .f .now) (o .ensures) (i .result) (j .result) (i .last .1 .1 .0) (i .last .1 .1 .1 .0) (j .last .1 .1 .0) (j .last .1 .1 .1 .0) (a .i .now) (a .j .now) (i .ensures) (j .ensures) (joined (c .before .before)) (c .before .if1 .taken) (c .uneven .ensures)
+    let a = c .before .before .before .before .before .before .before .before .before .before .before .before .before .before .before .before .before .before .before .before .before .before .before .before .before .before .before .before .args in
+    let O = c .before .before .before .before .before .before .before .before .before .before .before .before .before .before .before .before .before .before .before .before .before .before .before .before .before .before .before .before .pre .0 in
+    sides-open (a .opened) O (i .result) (j .result) (i .last .1 .1 .0) (i .last .1 .1 .1 .0) (j .last .1 .1 .0) (j .last .1 .1 .1 .0) (a .i .now) (a .j .now) (i .ensures) (j .ensures) (joined (c .before .before)) (c .before .if1 .taken) (c .uneven .ensures)
 
 same-length-5 : tie.Need-same-length-5
 same-length-5 c = search needs
@@ -70,17 +66,16 @@ same-length-8 c = search needs
 
 returns-2 : tie.Need-returns-2
 returns-2 c =
-    let o = c .before .before .before .before .before .before .before .before .before .before .before .before .before .before .before .before .before .before .before .before .before .«open» in
     let i = c .before .before .before .before .before .before .before .before .before .before .before .before .before .before .before .before .judge-instance in
     let j = c .before .before .before .before .before .before .before .before .before .judge-instance2 in
-    let a = c .before .before .before .before .before .before .before .before .before .before .before .before .before .before .before .before .before .before .before .before .before .before .before .before .before .before .before .before .before .before .before .args in
-    sides-stopped (o .result) (a .s .now) (a .t .now) (a .f .now) (o .ensures) (i .result) (j .result) (i .last .1 .1 .0) (i .last .1 .1 .1 .0) (j .last .1 .1 .0) (j .last .1 .1 .1 .0) (a .i .now) (a .j .now) (i .ensures) (j .ensures) (joined (c .before)) (c .if1 .left)
+    let a = c .before .before .before .before .before .before .before .before .before .before .before .before .before .before .before .before .before .before .before .before .before .before .before .before .before .before .before .args in
+    let O = c .before .before .before .before .before .before .before .before .before .before .before .before .before .before .before .before .before .before .before .before .before .before .before .before .before .before .before .pre .0 in
+    sides-stopped (a .opened) O (i .result) (j .result) (i .last .1 .1 .0) (i .last .1 .1 .1 .0) (j .last .1 .1 .0) (j .last .1 .1 .1 .0) (a .i .now) (a .j .now) (i .ensures) (j .ensures) (joined (c .before)) (c .if1 .left)
 
 pub open-sides-spec : {M : Type 1} → statement M
 open-sides-spec =
     tie.close
     (tie.spec
-    open-requires
     judge-instance-requires
     judge-instance-requires-2
     or-requires
