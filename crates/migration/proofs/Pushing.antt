@@ -88,6 +88,3 @@ pub sigma-told : {o : Opened} (s t f i : List ℕ) → Opens o (migration s t f)
 sigma-told s t f i O =
     ap (λ (M : Outcome Migration). evenlyPushed (runInput M i)) (O .says)
     ∙ bind-assoc (migration s t f) _ rest _ (λ m. bind-assoc (at 4 (judgeInstance (m .S) i)) _ rest _ (λ I. refl))
-
-pub sigma-migrates : {o : Opened} (s t f i : List ℕ) → Opens o (migration s t f) → {m : Migrated} {l v : List ℕ} → Migrates m l v (evenlyPushed (runInput (openedOf o) i)) → Migrates m l v (sigmaTables s t f i)
-sigma-migrates s t f i O u = record { says = u .says ∙ sigma-told s t f i O; writable = u .writable }

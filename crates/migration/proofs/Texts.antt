@@ -10,10 +10,9 @@ use borrow.Author.Tests.{le-leb, lt-leb}
 use Rattle.meaning.specs.Formats.{instanceSheet}
 use Rattle.meaning.specs.Program.{printed, shown, push}
 use Rattle.meaning.specs.Calls as meaning
-use Rattle.meaning.specs.Calls.{refused, accepted, sigmaTables}
+use Rattle.meaning.specs.Calls.{Outcome, refused, accepted, sigmaTables}
 use Rattle.meaning.proofs.Facts.{instance-facts}
 use Rattle.agreement.proofs.Agrees.{sigma-agrees}
-use Rattle.instance.specs.Decoded.{Room}
 use Rattle.text.specs.declared.Text.{Text}
 use Rattle.text.specs.Written.{maxTextBytes, Printable, Written}
 use Rattle.migration.specs.declared.Refusal.{Refusal}
@@ -30,25 +29,24 @@ module _ (r : Refusal) (m : meaning.Migrated) {old new : List ℕ} {t : Text} wh
   pub refusal-printed : (r .number ≡ 0 → ⊥) → Written (shown (refused (r .number) (r .place))) old t new → Written (shown (outcomeOf r m)) old t new
   refusal-printed e w = rw (some-refusal r m e) w
 
-module _ {m : Migrated} {links values : List ℕ} (s t f i : List ℕ) (M : Migrates m links values (sigmaTables s t f i)) where
+module _ {m : Migrated} {links values : List ℕ} {M : Outcome meaning.Migrated} (u : Migrates m links values M) where
   -- Sigma's sheet is an instance sheet, so its links have 9 bits
-  pub printable : Room links values → m .refusal .number ≡ 0 → Printable (m .schema) (m .tables) links values
-  printable room none =
-      let e : sigmaTables s t f i ≡ accepted (migratedOf m links values) = sym (M .says) ∙ no-refusal (m .refusal) (migratedOf m links values) none in
+  pub printable : (s t f i : List ℕ) → M ≡ sigmaTables s t f i → m .refusal .number ≡ 0 → Printable (m .schema) (m .tables) links values
+  printable s t f i told none =
+      let e : sigmaTables s t f i ≡ accepted (migratedOf m links values) = sym (u .says ∙ told) ∙ no-refusal (m .refusal) (migratedOf m links values) none in
       let a = sigma-agrees s t f i e in
       record {
-        limits = M .writable .sound .limits;
-        room = room;
-        rows = M .writable .limits none .rows;
+        limits = u .writable .sound .limits;
+        room = u .writable .room;
+        rows = u .writable .limits none .rows;
         targets = λ e l r. instance-facts (a .T) (instanceSheet (migratedOf m links values .tables)) (a .lendable .lent-again) .fits-fields .link-below e r;
       }
 
-  pub prints : {text old new : List ℕ} {r : Text} → text ≡ shown (sigmaTables s t f i) → maxTextBytes ≤ length old
-      → Written (shown (outcomeOf (m .refusal) (migratedOf m links values))) old r new → (r .length, new) ≡ printedInto old text
-  prints {text} {old} {new} {r} e large w =
-      let d : shown (outcomeOf (m .refusal) (migratedOf m links values)) ≡ text = ap shown (M .says) ∙ sym e in
-      let n : r .length ≡ length text = w .length-is ∙ ap (λ (l : List ℕ). length l) d in
-      let b : new ≡ text ++ drop (length text) old = rw d at (w .bytes) in
+  pub prints : {old new : List ℕ} {r : Text} → maxTextBytes ≤ length old → Written (shown (outcomeOf (m .refusal) (migratedOf m links values))) old r new → (r .length, new) ≡ printedInto old (shown M)
+  prints {old} {new} {r} large w =
+      let d : shown (outcomeOf (m .refusal) (migratedOf m links values)) ≡ shown M = ap shown (u .says) in
+      let n : r .length ≡ length (shown M) = w .length-is ∙ ap (λ (l : List ℕ). length l) d in
+      let b : new ≡ shown M ++ drop (length (shown M)) old = rw d at (w .bytes) in
       rw (le-leb maxTextBytes (length old) large) (Σ-path n b)
 
 pub prints-nothing : (text old : List ℕ) → length old < maxTextBytes → (0, old) ≡ printedInto old text

@@ -1,7 +1,9 @@
 -- What the judges of S, T and the mapping give together.
+use Prim.Native.Nat.{ℕ}
 use mathlib.Core.Path.{_≡_}
 use mathlib.Core.Bool.{Bool, _&&_}
-use Rattle.meaning.specs.Calls.{Outcome, Migration}
+use mathlib.Core.List.{List}
+use Rattle.meaning.specs.Calls.{Outcome, Migration, migration}
 use Rattle.schema.specs.Decoded.{schemaOf}
 use Rattle.mapping.specs.Decoded.{mappingOf}
 use Rattle.mapping.specs.Judged.{Schemas, Sound}
@@ -29,6 +31,13 @@ pub record Opens (o : Opened) (M : Outcome Migration) : Type 0 where
 -- what opening gives, whatever was lent
 abbrev pub IsOpened : Opened → Type 0
 IsOpened o = Opens o (openedOf o)
+
+-- opened from some sheets
+pub record FromSheets (o : Opened) : Type 0 where
+  pub s : List ℕ
+  pub t : List ℕ
+  pub f : List ℕ
+  pub opens : Opens o (migration s t f)
 
 -- both schemas have few columns
 abbrev pub haveFewColumns : Opened → Bool

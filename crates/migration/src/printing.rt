@@ -1,5 +1,7 @@
 // The push program's work: from the bytes that it reads to the text that it prints.
 use crate::migrate::sigma_tables;
+use crate::open::Opened;
+use crate::open::have_few_columns;
 use crate::open::open;
 use crate::results::Migrated;
 use instance::Instance;
@@ -9,13 +11,17 @@ use text::framing::sheets_of;
 use text::write_refusal;
 use text::write_tables;
 ghost use mathlib.Core.Path.{_≡_};
+ghost use mathlib.Core.Bool.{true};
 ghost use Prim.Native.Nat.{_≤_};
 ghost use lib.ListN.{length};
 ghost use Rattle.meaning.specs.Program as program;
+ghost use Rattle.instance.specs.Decoded.{RoomFor};
 ghost use Rattle.text.specs.Written.{maxTextBytes, Printable, Written};
 ghost use Rattle.migration.specs.Answers.{outcomeOf};
 ghost use Rattle.migration.specs.Migrated.{migratedOf};
+ghost use Rattle.migration.specs.Opened.{openedOf, haveFewColumns, FromSheets};
 ghost use Rattle.migration.specs.Printed.{printedInto};
+ghost use Rattle.migration.specs.Runs.{runInput, evenlyPushed};
 
 // Writes the text of a migrated instance, or of the refusal.
 fn print(m: Migrated, links: &[u32], values: &[u32], out: &mut [u8]) -> Text
@@ -29,6 +35,71 @@ fn print(m: Migrated, links: &[u32], values: &[u32], out: &mut [u8]) -> Text
         return write_tables(&mut *out, schema, tables, links, values);
     }
     write_refusal(&mut *out, refusal.number, refusal.place)
+}
+
+// Prints Sigma of a run, in working arrays of any length that does: the length of the text.
+fn print_sigma(
+    opened: Opened,
+    i: &[u8],
+    out: &mut [u8],
+    run_links: &mut [u32],
+    run_values: &mut [u32],
+    links: &mut [u32],
+    values: &mut [u32],
+) -> usize
+    requires { ⌜ FromSheets opened × RoomFor (opened .source) (now «run_links») (now «run_values») × RoomFor (opened .target) (now links) (now values) × (maxTextBytes ≤ length (now out)) ⌝ }
+    ensures { λ r. ⌜ (r, now (out .exit)) ≡ printedInto (now (out .entry)) (program.shown (evenlyPushed (runInput (openedOf opened) (now (i .entry))))) ⌝ }
+{
+    let migrated = sigma_tables(
+        opened,
+        i,
+        &mut *run_links,
+        &mut *run_values,
+        &mut *links,
+        &mut *values,
+    );
+    let text = print(migrated, &*links, &*values, &mut *out);
+    text.length
+}
+
+// The same for schemas with few columns.
+fn print_few(opened: Opened, i: &[u8], out: &mut [u8]) -> usize
+    requires { ⌜ FromSheets opened × (haveFewColumns opened ≡ true) × (maxTextBytes ≤ length (now out)) ⌝ }
+    ensures { λ r. ⌜ (r, now (out .exit)) ≡ printedInto (now (out .entry)) (program.shown (evenlyPushed (runInput (openedOf opened) (now (i .entry))))) ⌝ }
+{
+    let mut run_links = [0u32; Instance::FEW_LINKS];
+    let mut run_values = [0u32; Instance::FEW_VALUES];
+    let mut links = [0u32; Instance::FEW_LINKS];
+    let mut values = [0u32; Instance::FEW_VALUES];
+    print_sigma(
+        opened,
+        i,
+        &mut *out,
+        &mut run_links,
+        &mut run_values,
+        &mut links,
+        &mut values,
+    )
+}
+
+// The same for any schemas.
+fn print_any(opened: Opened, i: &[u8], out: &mut [u8]) -> usize
+    requires { ⌜ FromSheets opened × (maxTextBytes ≤ length (now out)) ⌝ }
+    ensures { λ r. ⌜ (r, now (out .exit)) ≡ printedInto (now (out .entry)) (program.shown (evenlyPushed (runInput (openedOf opened) (now (i .entry))))) ⌝ }
+{
+    let mut run_links = [0u32; Instance::LINKS];
+    let mut run_values = [0u32; Instance::VALUES];
+    let mut links = [0u32; Instance::LINKS];
+    let mut values = [0u32; Instance::VALUES];
+    print_sigma(
+        opened,
+        i,
+        &mut *out,
+        &mut run_links,
+        &mut run_values,
+        &mut links,
+        &mut values,
+    )
 }
 
 // What the program push prints for an input, written to the front of out: its length. Where out has fewer than `Text::BYTES`
@@ -45,18 +116,9 @@ pub fn push(input: &[u8], out: &mut [u8]) -> usize
         bytes_of(input, sheets.t),
         bytes_of(input, sheets.mapping),
     );
-    let mut run_links = [0u32; Instance::LINKS];
-    let mut run_values = [0u32; Instance::VALUES];
-    let mut links = [0u32; Instance::LINKS];
-    let mut values = [0u32; Instance::VALUES];
-    let migrated = sigma_tables(
-        opened,
-        bytes_of(input, sheets.run),
-        &mut run_links,
-        &mut run_values,
-        &mut links,
-        &mut values,
-    );
-    let text = print(migrated, &links, &values, &mut *out);
-    text.length
+    let run = bytes_of(input, sheets.run);
+    if have_few_columns(opened) {
+        return print_few(opened, run, &mut *out);
+    }
+    print_any(opened, run, &mut *out)
 }

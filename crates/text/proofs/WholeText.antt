@@ -56,8 +56,8 @@ module _ (t : Schema) (i : Instance) (links values : List ℕ) (Z : Sized t i) (
 
   pub columns-fit : ColumnsFit (sourceOf t) links (nodeOf t) values
   columns-fit = record {
-    for-links = omega (arith, source-long Z, P .limits .edges, P .room .for-links);
-    for-values = omega (arith, node-long Z, P .limits .attributes, P .room .for-values);
+    for-links = omega (arith, source-long Z, P .room .for-links);
+    for-values = omega (arith, node-long Z, P .room .for-values);
   }
 
   -- ---- the text

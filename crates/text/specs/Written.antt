@@ -10,8 +10,7 @@ use Rattle.meaning.specs.Calls.{Migrated}
 use Rattle.schema.specs.declared.Schema.{Schema}
 use Rattle.schema.specs.Decoded.{Limits, schemaOf}
 use Rattle.instance.specs.declared.Instance.{Instance}
-use Rattle.instance.specs.Decoded as instance
-use Rattle.instance.specs.Decoded.{tablesOf}
+use Rattle.instance.specs.Decoded.{tablesOf, RoomFor}
 use Rattle.text.specs.declared.Text.{Text}
 
 -- no text is longer: a first line of 19 bytes, and a line of 311 for each row
@@ -29,6 +28,6 @@ migratedOf t i links values = record { schema = schemaOf t; tables = tablesOf t 
 -- tables of an accepted instance: links and rows within the limit of rows
 pub record Printable (t : Schema) (i : Instance) (links values : List ℕ) : Type 0 where
   pub limits : Limits t
-  pub room : instance.Room links values
+  pub room : RoomFor t links values
   pub rows : sumOf (tablesOf t i links values .counts) ≤ maxRows
   pub targets : (e : ℕ) → e < t .graph .edges → (r : ℕ) → link (tablesOf t i links values) e r < maxRows

@@ -1,22 +1,32 @@
 -- `migration::printing::push` meets its contract.
-use mathlib.Core.Path.{sym, ap₂, _∙_}
-use mathlib.Core.List.{List}
 use Prim.Native.Nat.{ℕ}
+use mathlib.Core.Path.{_≡_, sym, ap, ap₂, _∙_}
+use mathlib.Core.List.{List}
 use native.Mathlib.Omega.{arith}
 use Rattle.meaning.specs.Program.{push, shown}
 use Rattle.meaning.specs.Calls.{sigmaTables}
-use Rattle.instance.proofs.Rooms.{room-for}
 use Rattle.text.proofs.SheetParts.{sheets-pushed}
-use Rattle.migration.proofs.Opening.{is-opened}
-use Rattle.migration.proofs.Pushing.{sigma-migrates}
-use Rattle.migration.proofs.Texts.{printable, prints, prints-nothing}
+use Rattle.migration.specs.Opened.{openedOf, FromSheets}
+use Rattle.migration.specs.Printed.{printedInto}
+use Rattle.migration.specs.Runs.{runInput, evenlyPushed}
+use Rattle.migration.proofs.Pushing.{sigma-told}
+use Rattle.migration.proofs.Texts.{prints-nothing}
 use borrow.Author.Needs.{needs}
 use Rattle.migration.proofs.printing.push.Statement.{statement}
 use Rattle.migration.proofs.printing.push.Tie as tie
 
+-- S, T and the mapping were opened from parts of the input
+from-input : (c : tie.After-bytes-of4) → FromSheets (c .before .«open» .result)
+from-input c = record { s = c .before .before .before .before .bytes-of .result .now; t = c .before .before .before .bytes-of2 .result .now; f = c .before .before .bytes-of3 .result .now; opens = c .before .«open» .ensures }
+
+text-is : (c : tie.After-bytes-of4) → shown (evenlyPushed (runInput (openedOf (c .before .«open» .result)) (c .bytes-of4 .result .now))) ≡ push (c .before .before .before .before .before .before .before .before .before .args .input .now)
+text-is c =
+    ap shown (sigma-told (c .before .before .before .before .bytes-of .result .now) (c .before .before .before .bytes-of2 .result .now) (c .before .before .bytes-of3 .result .now) (c .bytes-of4 .result .now) (c .before .«open» .ensures))
+    ∙ ap₂ (λ (x y : List ℕ × List ℕ). shown (sigmaTables (x .0) (x .1) (y .0) (y .1))) (ap₂ (λ (a b : List ℕ). (a, b)) (c .before .before .before .before .bytes-of .ensures) (c .before .before .before .bytes-of2 .ensures)) (ap₂ (λ (a b : List ℕ). (a, b)) (c .before .before .bytes-of3 .ensures) (c .bytes-of4 .ensures))
+    ∙ sym (sheets-pushed (c .before .before .before .before .before .sheets-of .ensures))
+
 returns : tie.Need-returns
-returns c =
-    prints-nothing (push (c .before .before .before .args .input .now)) (c .before .before .before .args .out .now) (c .if1 .taken)
+returns c = prints-nothing (push (c .before .before .before .args .input .now)) (c .before .before .before .args .out .now) (c .if1 .taken)
 
 sheets-of-requires : tie.Need-sheets-of-requires
 sheets-of-requires c κs = search needs
@@ -36,41 +46,26 @@ open-requires c κs = search needs
 bytes-of-requires-4 : tie.Need-bytes-of-requires-4
 bytes-of-requires-4 c κs = search needs
 
-slice-aggregate-sigma-tables : tie.Need-slice-aggregate-sigma-tables
-slice-aggregate-sigma-tables c = search needs
+have-few-columns-requires : tie.Need-have-few-columns-requires
+have-few-columns-requires c κs = search needs
 
-slice-aggregate-sigma-tables-2 : tie.Need-slice-aggregate-sigma-tables-2
-slice-aggregate-sigma-tables-2 c = search needs
-
-slice-aggregate-sigma-tables-3 : tie.Need-slice-aggregate-sigma-tables-3
-slice-aggregate-sigma-tables-3 c = search needs
-
-slice-aggregate-sigma-tables-4 : tie.Need-slice-aggregate-sigma-tables-4
-slice-aggregate-sigma-tables-4 c = search needs
-
-sigma-tables-requires : tie.Need-sigma-tables-requires
-sigma-tables-requires c κs = let O = c .before .before .before .before .before .«open» .ensures in (is-opened O, room-for (O .schemas .source) (search needs), room-for (O .schemas .target) (search needs))
-
-slice-aggregate-print : tie.Need-slice-aggregate-print
-slice-aggregate-print c = search needs
-
-slice-aggregate-print-2 : tie.Need-slice-aggregate-print-2
-slice-aggregate-print-2 c = search needs
-
-print-requires : tie.Need-print-requires
-print-requires c κs =
-    let M = sigma-migrates (c .before .before .before .before .before .before .before .before .before .before .before .before .before .before .before .before .bytes-of .result .now) (c .before .before .before .before .before .before .before .before .before .before .before .before .before .before .before .bytes-of2 .result .now) (c .before .before .before .before .before .before .before .before .before .before .before .before .before .before .bytes-of3 .result .now) (c .before .before .before .before .before .before .before .before .before .before .before .before .bytes-of4 .result .now) (c .before .before .before .before .before .before .before .before .before .before .before .before .before .«open» .ensures) (c .before .before .before .before .before .before .before .sigma-tables .ensures) in
-    (printable (c .before .before .before .before .before .before .before .before .before .before .before .before .before .before .before .before .bytes-of .result .now) (c .before .before .before .before .before .before .before .before .before .before .before .before .before .before .before .bytes-of2 .result .now) (c .before .before .before .before .before .before .before .before .before .before .before .before .before .before .bytes-of3 .result .now) (c .before .before .before .before .before .before .before .before .before .before .before .before .bytes-of4 .result .now) M (search needs), let w = c .before .before .before .before .before .before .before .before .before .before .before .before .before .before .before .before .before .before .if1 .left in omega arith)
+print-few-requires : tie.Need-print-few-requires
+print-few-requires c κs = (from-input (c .before .before .before), sym (c .before .before .have-few-columns .ensures) ∙ c .before .if2 .taken, let w = c .before .before .before .before .before .before .before .before .before .if1 .left in omega arith)
 
 same-length : tie.Need-same-length
 same-length c = search needs
 
 returns-2 : tie.Need-returns-2
-returns-2 c =
-    let M = sigma-migrates (c .before .before .before .before .before .before .before .before .before .before .before .before .before .before .before .before .before .before .before .bytes-of .result .now) (c .before .before .before .before .before .before .before .before .before .before .before .before .before .before .before .before .before .before .bytes-of2 .result .now) (c .before .before .before .before .before .before .before .before .before .before .before .before .before .before .before .before .before .bytes-of3 .result .now) (c .before .before .before .before .before .before .before .before .before .before .before .before .before .before .before .bytes-of4 .result .now) (c .before .before .before .before .before .before .before .before .before .before .before .before .before .before .before .before .«open» .ensures) (c .before .before .before .before .before .before .before .before .before .before .sigma-tables .ensures) in
-    prints (c .before .before .before .before .before .before .before .before .before .before .before .before .before .before .before .before .before .before .before .bytes-of .result .now) (c .before .before .before .before .before .before .before .before .before .before .before .before .before .before .before .before .before .before .bytes-of2 .result .now) (c .before .before .before .before .before .before .before .before .before .before .before .before .before .before .before .before .before .bytes-of3 .result .now) (c .before .before .before .before .before .before .before .before .before .before .before .before .before .before .before .bytes-of4 .result .now) M (sheets-pushed (c .before .before .before .before .before .before .before .before .before .before .before .before .before .before .before .before .before .before .before .before .sheets-of .ensures) ∙ ap₂ (λ (x y : List ℕ × List ℕ). shown (sigmaTables (x .0) (x .1) (y .0) (y .1)))
-    (ap₂ (λ (a b : List ℕ). (a, b)) (sym (c .before .before .before .before .before .before .before .before .before .before .before .before .before .before .before .before .before .before .before .bytes-of .ensures)) (sym (c .before .before .before .before .before .before .before .before .before .before .before .before .before .before .before .before .before .before .bytes-of2 .ensures))) (ap₂ (λ (a b : List ℕ). (a, b)) (sym (c .before .before .before .before .before .before .before .before .before .before .before .before .before .before .before .before .before .bytes-of3 .ensures)) (sym (c .before .before .before .before .before .before .before .before .before .before .before .before .before .before .before .bytes-of4 .ensures))))
-    (let w = c .before .before .before .before .before .before .before .before .before .before .before .before .before .before .before .before .before .before .before .before .before .if1 .left in omega arith) (c .before .before .print .ensures)
+returns-2 c = c .before .before .print-few .ensures ∙ ap (printedInto (c .before .before .before .before .before .before .before .before .before .before .before .before .before .before .before .args .out .now)) (text-is (c .before .before .before .before .before .before))
+
+print-any-requires : tie.Need-print-any-requires
+print-any-requires c κs = (from-input (c .before .before .before), let w = c .before .before .before .before .before .before .before .before .before .if1 .left in omega arith)
+
+same-length-2 : tie.Need-same-length-2
+same-length-2 c = search needs
+
+returns-3 : tie.Need-returns-3
+returns-3 c = c .before .before .print-any .ensures ∙ ap (printedInto (c .before .before .before .before .before .before .before .before .before .before .before .before .before .before .before .args .out .now)) (text-is (c .before .before .before .before .before .before))
 
 pub push-spec : {M : Type 1} → statement M
 push-spec =
@@ -83,13 +78,10 @@ push-spec =
     bytes-of-requires-3
     open-requires
     bytes-of-requires-4
-    slice-aggregate-sigma-tables
-    slice-aggregate-sigma-tables-2
-    slice-aggregate-sigma-tables-3
-    slice-aggregate-sigma-tables-4
-    sigma-tables-requires
-    slice-aggregate-print
-    slice-aggregate-print-2
-    print-requires
+    have-few-columns-requires
+    print-few-requires
     same-length
-    returns-2)
+    returns-2
+    print-any-requires
+    same-length-2
+    returns-3)
