@@ -1,36 +1,36 @@
--- What the steps of Pi say together: judged sheets, tests 13 and 14, and the size of the result.
-use Prim.Native.Nat.{ℕ}
-use mathlib.Core.Path.{_≡_, refl, sym, ap, _∙_}
+-- What the steps of Pi say together: judged sheets, tests 13 and 14, the size of the result, and its tables.
+use Prim.Native.Nat.{ℕ, _≤_}
+use mathlib.Core.Path.{_≡_, refl, sym, ap, subst, _∙_}
 use mathlib.Core.Bool.{Bool, true, false, cond}
 use mathlib.Core.List.{List}
 use native.Mathlib.Omega.{arith}
-use lib.Dec.{leb}
 use Rattle.meaning.specs.Lists.{sumOf}
 use Rattle.meaning.specs.Formats as formats
-use Rattle.meaning.specs.Formats.{maxRows}
 use Rattle.meaning.specs.Pi.{isBijective, hasFewComponents}
 use Rattle.meaning.specs.Judge.{judgeInstance}
 use Rattle.meaning.specs.Calls as meaning
-use Rattle.meaning.specs.Calls.{Outcome, accepted, at, ensure, migration, piTables, _>>=_}
-use Rattle.schema.specs.Decoded.{schemaOf, frontOf}
+use Rattle.meaning.specs.Calls.{Outcome, at, ensure, Migration, migration, piTables, _>>=_}
+use Rattle.schema.specs.Decoded.{schemaOf}
 use Rattle.schema.specs.Judged.{Sound}
-use Rattle.instance.proofs.Rooms.{room-for}
 use Rattle.mapping.specs.Decoded.{mappingOf}
-use Rattle.instance.specs.Decoded.{Room}
-use Rattle.pi.specs.declared.PiTables.{PiTables}
+use Rattle.instance.specs.declared.Instance.{Instance}
+use Rattle.instance.specs.Decoded.{RoomFor}
 use Rattle.pi.specs.declared.components.Components.{Components}
+use Rattle.pi.specs.declared.families.Listing.{Listing}
 use Rattle.pi.specs.Components.{AllComponents}
 use Rattle.pi.specs.Given.{Mapped}
-use Rattle.pi.specs.Tables.{piOf, GivesPi}
+use Rattle.pi.specs.Tables.{PiReady, piOf, Made, ListsPi}
+use Rattle.migration.specs.declared.Refusal.{Refusal}
 use Rattle.migration.specs.declared.open.Opened.{Opened}
-use Rattle.migration.specs.declared.results.Migrated.{Migrated}
-use Rattle.migration.specs.declared.runs.Run.{Run}
+use Rattle.migration.specs.declared.joins.Joined.{Joined}
 use Rattle.migration.specs.Answers.{outcomeOf}
-use Rattle.migration.specs.Opened.{Ready}
-use Rattle.migration.specs.Runs.{RunInput, runInput, joinedRun, runInputOf, RunSays, JoinableRun}
+use Rattle.migration.specs.Opened.{openedOf, Ready, Opens}
+use Rattle.migration.specs.Runs.{RunInput, runInput, runInputOf, RunSays}
+use Rattle.migration.specs.Joins.{joinedRun, testedJoined, joinedOf, ListedRun, Joins}
 use Rattle.migration.specs.Migrated.{Migrates}
 use Rattle.migration.proofs.Refusing.{refusal, some-refusal, no-refusal, stops, yields, tested, bind-assoc}
-use Rattle.migration.proofs.Migrating.{size, sized, made, stopped}
+use Rattle.migration.proofs.Migrating.{size, sized}
+use Rattle.migration.proofs.Opening.{passed}
 
 -- what Pi takes of the sheets of S, T and a mapping
 pub mapped : {o : Opened} → Ready o → Mapped (o .source) (o .target) (o .«target_paths») (o .mapping)
@@ -46,77 +46,97 @@ two-passed true true e = (refl, refl)
 two-passed true false e = absurd (omega arith)
 two-passed false b e = absurd (omega arith)
 
-module _ (x : Run) (links values : List ℕ) where
+abbrev rest : RunInput → Outcome meaning.Migrated
+rest y = ensure (isBijective (y .m .T) (y .m .F)) 13 >>= λ _. ensure (hasFewComponents (y .m .S) (y .m .T) (y .m .F)) 14 >>= λ _. joinedRun y
+
+module _ (o : Opened) (run : Instance) (links values rows : List ℕ) where
+  abbrev input : RunInput
+  input = runInputOf o run links values
+
   abbrev tables : formats.Instance
-  tables = piOf (x .opened .source) (x .opened .target) (x .opened .mapping) (x .run) links values
-
-  abbrev result : meaning.Migrated
-  result = record { schema = schemaOf (x .opened .target); tables = tables }
-
-  -- Pi's tables, or that there are too many rows
-  module _ (T : Sound (x .opened .target)) {r : PiTables} {found read : List ℕ} (R : Room found read) (u : GivesPi (x .opened .source) (x .opened .target) (x .opened .mapping) (x .run) links values r found read) where
-    pub joined-made : r .fits ≡ true → Migrates (record { refusal = refusal 0 0; schema = x .opened .target; tables = r .tables }) found read (joinedRun (runInputOf (x .opened) (x .run) links values))
-    joined-made fit =
-        let few : leb (sumOf (frontOf (x .opened .target .graph .nodes) (r .tables .counts))) maxRows ≡ true = ap (λ (J : formats.Instance). leb (sumOf (J .counts)) maxRows) (u .says fit) ∙ sym (u .fits) ∙ fit in
-        made T (room-for T R) (u .long) (ap (λ (b : Bool). cond {A = ℕ} b 0 15) (sym few)) (
-        ap (λ (J : formats.Instance). outcomeOf (size J) (record { schema = schemaOf (x .opened .target); tables = J })) (u .says fit) ∙
-        yields (size tables) tables (sized tables) (λ P. record { schema = schemaOf (x .opened .target); tables = P }))
-
-    pub joined-overfull : r .fits ≡ false → Migrates (record { refusal = refusal 15 0; schema = x .opened .target; tables = r .tables }) found read (joinedRun (runInputOf (x .opened) (x .run) links values))
-    joined-overfull fit =
-        let many : leb (sumOf (tables .counts)) maxRows ≡ false = sym (u .fits) ∙ fit in
-        stopped T (room-for T R) result (λ e. omega arith) (
-        ap (λ (b : Bool). outcomeOf (refusal (cond b 0 15) 0) result) (sym many) ∙
-        yields (size tables) tables (sized tables) (λ P. record { schema = schemaOf (x .opened .target); tables = P }))
+  tables = piOf (o .source) (o .target) (o .mapping) run links values
 
   abbrev paired : Bool
-  paired = isBijective (schemaOf (x .opened .target)) (mappingOf (x .opened .source) (x .opened .mapping))
+  paired = isBijective (schemaOf (o .target)) (mappingOf (o .source) (o .mapping))
 
   abbrev narrow : Bool
-  narrow = hasFewComponents (schemaOf (x .opened .source)) (schemaOf (x .opened .target)) (mappingOf (x .opened .source) (x .opened .mapping))
+  narrow = hasFewComponents (schemaOf (o .source)) (schemaOf (o .target)) (mappingOf (o .source) (o .mapping))
 
-  module _ (s t f i : List ℕ) (X : RunSays x links values (runInput (migration s t f) i)) where
-    abbrev both : RunInput → Outcome (Unit {0})
-    both y = ensure (isBijective (y .m .T) (y .m .F)) 13 >>= λ _. ensure (hasFewComponents (y .m .S) (y .m .T) (y .m .F)) 14
+  -- the families make Pi's tables, or there are too many
+  module _ {k : Components} {l : Listing} {n : ℕ} (L : ListsPi (o .source) (o .target) (o .«target_paths») (o .mapping) run k links values l rows) (d : n ≡ cond (l .fits) 0 15) where
+    abbrev listing : Joined
+    listing = record { refusal = refusal n 0; run = run; components = k; counts = l .counts }
 
-    abbrev rest : RunInput → Outcome meaning.Migrated
-    rest y = both y >>= λ _. joinedRun y
+    families-joined : Joins o listing rows values (joinedRun input)
+    families-joined = record {
+      says = ap (λ (n : ℕ). outcomeOf (refusal n 0) (joinedOf o listing rows values)) d ∙ go (l .fits) refl ∙ ap (λ (b : Bool). outcomeOf (refusal (cond b 0 15) 0) (made tables)) (L .fits)
+          ∙ yields (size tables) tables (sized tables) made;
+      listed = λ z. L .listed (passed (l .fits) 15 (λ e. omega arith) (sym d ∙ z));
+    }
+      where
+        made : formats.Instance → meaning.Migrated
+        made J = record { schema = schemaOf (o .target); tables = J }
 
-    pi-steps : (runInput (migration s t f) i >>= rest) ≡ piTables s t f i
-    pi-steps = bind-assoc (migration s t f) _ rest _ (λ m. bind-assoc (at 4 (judgeInstance (m .S) i)) _ rest _ (λ I. bind-assoc (ensure (isBijective (m .T) (m .F)) 13) _ (λ _. joinedRun (record { m = m; run = I })) _ (λ _. refl)))
+        go : (b : Bool) → l .fits ≡ b → outcomeOf (refusal (cond b 0 15) 0) (joinedOf o listing rows values) ≡ outcomeOf (refusal (cond b 0 15) 0) (made tables)
+        go true e = ap (λ (J : formats.Instance). outcomeOf (refusal 0 0) (made J)) (L .says e)
+        go false e = refl
 
+  module _ {r : Refusal} {X : Outcome RunInput} (I : RunSays o r run links values X) where
     -- a sheet was refused
-    pub sheets-stopped : (x .refusal .number ≡ 0 → ⊥) → {l v : List ℕ} → Room l v → Migrates (record { refusal = x .refusal; schema = x .opened .target; tables = x .run }) l v (piTables s t f i)
-    sheets-stopped some R = stopped (X .schemas .target) (room-for (X .schemas .target) R) result some (stops (x .refusal) (runInputOf (x .opened) (x .run) links values) (X .says) result rest some ∙ pi-steps)
+    pub sheets-stopped : {x : Joined} → x .refusal ≡ r → (r .number ≡ 0 → ⊥) → Joins o x rows values (testedJoined X)
+    sheets-stopped {x} e some = record {
+      says = ap (λ (r : Refusal). outcomeOf r (joinedOf o x rows values)) e ∙ stops r input (I .says) (joinedOf o x rows values) rest some;
+      listed = λ z. absurd (some (ap (λ (r : Refusal). r .number) (sym e) ∙ z));
+    }
 
-    module _ (none : x .refusal .number ≡ 0) where
-      told : rest (runInputOf (x .opened) (x .run) links values) ≡ piTables s t f i
-      told = ap (λ (o : Outcome RunInput). o >>= rest) (sym (no-refusal (x .refusal) (runInputOf (x .opened) (x .run) links values) none) ∙ X .says) ∙ pi-steps
+    module _ (none : r .number ≡ 0) where
+      told : rest input ≡ testedJoined X
+      told = ap (λ (o : Outcome RunInput). o >>= rest) (sym (no-refusal r input none) ∙ I .says)
 
       module _ {n : ℕ} (d : n ≡ cond paired (cond narrow 0 14) 13) where
         -- a test was not passed
-        pub tests-stopped : (n ≡ 0 → ⊥) → {l v : List ℕ} → Room l v → Migrates (record { refusal = refusal n 0; schema = x .opened .target; tables = x .run }) l v (piTables s t f i)
-        tests-stopped some R =
-            stopped (X .schemas .target) (room-for (X .schemas .target) R) result some (
-            stops (refusal n 0) tt (ap (λ (n : ℕ). outcomeOf (refusal n 0) tt) d ∙ two-tested paired narrow) result (λ _. joinedRun (runInputOf (x .opened) (x .run) links values)) some ∙ told)
+        pub tests-stopped : {x : Joined} → x .refusal ≡ refusal n 0 → (n ≡ 0 → ⊥) → Joins o x rows values (testedJoined X)
+        tests-stopped {x} e some = record {
+          says = ap (λ (r : Refusal). outcomeOf r (joinedOf o x rows values)) e
+              ∙ stops (refusal n 0) tt (ap (λ (n : ℕ). outcomeOf (refusal n 0) tt) d ∙ two-tested paired narrow) (joinedOf o x rows values) (λ _. joinedRun input) some
+              ∙ bind-assoc (ensure paired 13) (λ _. ensure narrow 14) (λ _. joinedRun input) _ (λ _. refl) ∙ told;
+          listed = λ z. absurd (some (ap (λ (r : Refusal). r .number) (sym e) ∙ z));
+        }
 
         module _ (z : n ≡ 0) where
-          pub joinable : {k : Components} → AllComponents (x .opened .source) (x .opened .target) (x .opened .mapping) (x .opened .target .graph .nodes) k → Room links values → JoinableRun x k links values
-          joinable K R =
-              let p = two-passed paired narrow (sym d ∙ z) in
+          both : (paired ≡ true) × (narrow ≡ true)
+          both = two-passed paired narrow (sym d ∙ z)
+
+          pub joinable : {k : Components} → AllComponents (o .source) (o .target) (o .mapping) (o .target .graph .nodes) k → RoomFor (o .source) links values → PiReady (o .source) (o .target) (o .«target_paths») (o .mapping) run k links values
+          joinable K R = record {
+            mapped = mapped (I .ready none);
+            linked = record { limits = I .limits; room = R .for-links; links-in = I .accepted none .links-in };
+            values-long = R .for-values;
+            bijective = both .0;
+            gathered = record { all = K; few = both .1 };
+          }
+
+          -- the families are listed, or there are too many
+          pub tests-joined : {k : Components} {l : Listing} {m : ℕ} → ListsPi (o .source) (o .target) (o .«target_paths») (o .mapping) run k links values l rows → m ≡ cond (l .fits) 0 15
+              → Joins o (record { refusal = refusal m 0; run = run; components = k; counts = l .counts }) rows values (testedJoined X)
+          tests-joined L c =
+              let u = families-joined L c in
               record {
-                mapped = mapped (X .ready none);
-                linked = record { limits = X .limits; room = R .for-links; links-in = X .accepted none .links-in };
-                values-long = room-for (X .schemas .source) R .for-values;
-                bijective = p .0;
-                gathered = record { all = K; few = p .1 };
+                says = u .says ∙ ap (λ (b : Bool). ensure true 13 >>= λ _. ensure b 14 >>= λ _. joinedRun input) (sym (both .1)) ∙ ap (λ (b : Bool). ensure b 13 >>= λ _. ensure narrow 14 >>= λ _. joinedRun input) (sym (both .0)) ∙ told;
+                listed = u .listed;
               }
 
-          pub tests-joined : {m : Migrated} {l v : List ℕ} → Migrates m l v (joinedRun (runInputOf (x .opened) (x .run) links values)) → Migrates m l v (piTables s t f i)
-          tests-joined u =
-              let p = two-passed paired narrow (sym d ∙ z) in
-              record {
-                says = u .says ∙ ap (λ (b : Bool). (ensure true 13 >>= λ _. ensure b 14) >>= λ _. joinedRun (runInputOf (x .opened) (x .run) links values)) (sym (p .1))
-                    ∙ ap (λ (b : Bool). (ensure b 13 >>= λ _. ensure narrow 14) >>= λ _. joinedRun (runInputOf (x .opened) (x .run) links values)) (sym (p .0)) ∙ told;
-                writable = u .writable;
-              }
+-- the tables that families make, in working arrays
+pub families-made : (o : Opened) (x : Joined) {rows values found read : List ℕ} {r : Instance} → Sound (o .target) → ListedRun o x rows values → RoomFor (o .target) found read
+    → Made (o .source) (o .target) (o .«target_paths») (o .mapping) (x .run) (x .components) (x .counts) rows values r found read
+    → Migrates (record { refusal = x .refusal; schema = o .target; tables = r }) found read (outcomeOf (x .refusal) (joinedOf o x rows values))
+families-made o x S L R m = record {
+  says = ap (λ (J : formats.Instance). outcomeOf (x .refusal) (record { schema = schemaOf (o .target); tables = J })) (m .says);
+  writable = record { sound = S; limits = λ _. record { rows = subst (λ (J : formats.Instance). sumOf (J .counts) ≤ 512) (sym (m .says)) (L .few); long = m .long }; room = R };
+}
+
+-- the steps, of the sheets that were opened
+pub pi-told : {o : Opened} (s t f i : List ℕ) → Opens o (migration s t f) → testedJoined (runInput (openedOf o) i) ≡ piTables s t f i
+pi-told s t f i O =
+    ap (λ (M : Outcome Migration). testedJoined (runInput M i)) (O .says)
+    ∙ bind-assoc (migration s t f) _ rest _ (λ m. bind-assoc (at 4 (judgeInstance (m .S) i)) _ rest _ (λ I. refl))

@@ -34,7 +34,7 @@ module _ (o : Opened) {M : Outcome Migration} (O : Opens o M) (run : Instance) (
   abbrev run-input : RunInput
   run-input = runInputOf o run links values
 
-  pub run-open : {r : Refusal} → r ≡ orNext (o .refusal) (refusal (run .fault) 4) → RunSays (record { refusal = r; opened = o; run = run }) links values (runInput M i)
+  pub run-open : {r : Refusal} → r ≡ orNext (o .refusal) (refusal (run .fault) 4) → RunSays o r run links values (runInput M i)
   run-open {r} e = record {
     says = ap (λ (r : Refusal). outcomeOf r run-input) e ∙
         then (o .refusal) (migrationOf o) (O .says) (refusal (run .fault) 4) run-input (λ m. do

@@ -54,7 +54,7 @@ module _ (o : Opened) (run : Instance) (links values : List ℕ) where
       ap (λ (J : formats.Instance). outcomeOf (size J) (record { schema = schemaOf (o .target); tables = J })) (p .says) ∙
       yields (size tables) tables (sized tables) (λ P. record { schema = schemaOf (o .target); tables = P }))
 
-  module _ {r : Refusal} {X : Outcome RunInput} (I : RunSays (record { refusal = r; opened = o; run = run }) links values X) where
+  module _ {r : Refusal} {X : Outcome RunInput} (I : RunSays o r run links values X) where
     -- a sheet was refused
     pub sheets-stopped : (r .number ≡ 0 → ⊥) → {l v : List ℕ} → RoomFor (o .target) l v → Migrates (record { refusal = r; schema = o .target; tables = run }) l v (evenlyPushed X)
     sheets-stopped some R = stopped (I .schemas .target) R result some (stops r input (I .says) result rest some)

@@ -2,6 +2,7 @@
 pub mod Answers
 pub mod Opened
 pub mod Runs
+pub mod Joins
 pub mod Migrated
 pub mod Sides
 pub mod Matched

@@ -6,7 +6,6 @@ use Rattle.meaning.specs.Formats as formats
 use Rattle.meaning.specs.Judge.{judgeInstance}
 use Rattle.meaning.specs.Evenness.{even}
 use Rattle.meaning.specs.Sigma.{sigma}
-use Rattle.meaning.specs.Pi.{pi}
 use Rattle.meaning.specs.Calls as meaning
 use Rattle.meaning.specs.Calls.{Outcome, accepted, _>>=_, at, ensure, ensureFits, Migration}
 use Rattle.mapping.specs.Judged.{Schemas}
@@ -14,10 +13,8 @@ use Rattle.instance.specs.declared.Instance.{Instance}
 use Rattle.instance.specs.Decoded.{tablesOf, Limits}
 use Rattle.instance.specs.Tested.{Accepted}
 use Rattle.sigma.specs.Pushed.{Pushable}
-use Rattle.pi.specs.declared.components.Components.{Components}
-use Rattle.pi.specs.Tables.{PiReady}
+use Rattle.migration.specs.declared.Refusal.{Refusal}
 use Rattle.migration.specs.declared.open.Opened.{Opened}
-use Rattle.migration.specs.declared.runs.Run.{Run}
 use Rattle.migration.specs.Answers.{outcomeOf}
 use Rattle.migration.specs.Opened.{migrationOf, Ready}
 
@@ -45,28 +42,19 @@ evenlyPushed X = do
   _ ← ensure (even (y .m .S) (y .m .T) (y .m .F)) 12
   pushedRun y
 
--- Pi of the run, and its size
-abbrev pub joinedRun : RunInput → Outcome meaning.Migrated
-joinedRun y = do
-  P ← ensureFits (pi (y .m .S) (y .m .T) (y .m .F) (y .run))
-  accepted (record { schema = y .m .T; tables = P })
-
 -- ---- in working arrays: the run's links and values
 
 abbrev pub runInputOf : Opened → Instance → List ℕ → List ℕ → RunInput
 runInputOf o run links values = record { m = migrationOf o; run = tablesOf (o .source) run links values }
 
-pub record RunSays (x : Run) (links values : List ℕ) (X : Outcome RunInput) : Type 0 where
-  pub says : outcomeOf (x .refusal) (runInputOf (x .opened) (x .run) links values) ≡ X
-  pub schemas : Schemas (x .opened .source) (x .opened .target) (x .opened .«source_paths») (x .opened .«target_paths»)
-  pub limits : Limits (x .opened .source) (x .run)
-  pub ready : (x .refusal .number ≡ 0 → Ready (x .opened))
-  pub accepted : (x .refusal .number ≡ 0 → Accepted (x .opened .source) (x .run) links values)
+-- what the four sheets say, where the refusal is none
+pub record RunSays (o : Opened) (r : Refusal) (run : Instance) (links values : List ℕ) (X : Outcome RunInput) : Type 0 where
+  pub says : outcomeOf r (runInputOf o run links values) ≡ X
+  pub schemas : Schemas (o .source) (o .target) (o .«source_paths») (o .«target_paths»)
+  pub limits : Limits (o .source) run
+  pub ready : (r .number ≡ 0 → Ready o)
+  pub accepted : (r .number ≡ 0 → Accepted (o .source) run links values)
 
 -- what Sigma relies on
 abbrev pub PushableRun : Opened → Instance → List ℕ → List ℕ → Type 0
 PushableRun o = Pushable (o .source) (o .target) (o .«source_paths») (o .«target_paths») (o .mapping)
-
--- what Pi relies on
-abbrev pub JoinableRun : Run → Components → List ℕ → List ℕ → Type 0
-JoinableRun x = PiReady (x .opened .source) (x .opened .target) (x .opened .«target_paths») (x .opened .mapping) (x .run)

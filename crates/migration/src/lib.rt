@@ -2,12 +2,12 @@
 // first refusal that applies.
 mod checks;
 pub mod exports;
+mod joins;
 mod matchings;
 mod migrate;
 mod open;
 mod printing;
 mod results;
-mod runs;
 mod sides;
 mod turnings;
 
@@ -17,8 +17,8 @@ pub use checks::check_pushed;
 pub use checks::check_raw;
 pub use checks::check_schema;
 pub use checks::same_path;
+pub use joins::pi;
 pub use migrate::delta;
-pub use migrate::pi;
 pub use migrate::sigma;
 pub use printing::push;
 pub use turnings::pushed_to_raw;

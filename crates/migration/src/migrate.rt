@@ -1,4 +1,4 @@
-// The migrations, of lent sheets into a lent tray.
+// Delta and Sigma, of lent sheets into a lent tray.
 use crate::Refusal;
 use crate::Written;
 use crate::open::Opened;
@@ -8,27 +8,16 @@ use crate::open::uneven;
 use crate::results::Migrated;
 use crate::results::overfull;
 use crate::results::write_migrated;
-use crate::runs::Run;
-use crate::runs::open_run;
 use instance::Instance;
 use instance::judge_instance;
-use mapping::attributes::is_bijective;
-use pi::components::Components;
-use pi::families::Listing;
-use pi::gather::components;
-use pi::gather::has_few_components;
 ghost use mathlib.Core.Path.{_≡_};
-ghost use mathlib.Core.Bool.{true, cond};
-ghost use Rattle.meaning.specs.Calls.{deltaTables, sigmaTables, piTables, sheetOf, inTray};
-ghost use Rattle.meaning.specs.Pi.{isBijective, hasFewComponents};
-ghost use Rattle.schema.specs.Decoded.{schemaOf};
-ghost use Rattle.mapping.specs.Decoded.{mappingOf};
-ghost use Rattle.instance.specs.Decoded.{Room, RoomFor};
-ghost use Rattle.pi.specs.Components.{AllComponents};
+ghost use mathlib.Core.Bool.{true};
+ghost use Rattle.meaning.specs.Calls.{deltaTables, sigmaTables, sheetOf, inTray};
+ghost use Rattle.instance.specs.Decoded.{RoomFor};
 ghost use Rattle.migration.specs.Answers.{lentOf};
 ghost use Rattle.migration.specs.Migrated.{pulledBook, Migrates};
-ghost use Rattle.migration.specs.Opened.{openedOf, haveFewColumns, IsOpened, Ready};
-ghost use Rattle.migration.specs.Runs.{runInput, evenlyPushed, runInputOf, pushedRun, PushableRun, joinedRun, JoinableRun};
+ghost use Rattle.migration.specs.Opened.{openedOf, haveFewColumns, IsOpened};
+ghost use Rattle.migration.specs.Runs.{runInput, evenlyPushed, runInputOf, pushedRun, PushableRun};
 
 // Delta's tables of a book, in working arrays.
 fn delta_tables(
@@ -259,121 +248,4 @@ pub fn sigma(s: &[u8], t: &[u8], f: &[u8], i: &[u8], tray: &mut [u8]) -> Written
         return sigma_of_few(opened, i, &mut *tray);
     }
     sigma_of_any(opened, i, &mut *tray)
-}
-
-// 13 where the attribute mapping is not a bijection, 14 where a table has too many components, else 0.
-fn unjoinable(opened: Opened, k: Components) -> u8
-    requires { ⌜ Ready opened × AllComponents (opened .source) (opened .target) (opened .mapping) (opened .target .graph .nodes) k ⌝ }
-    ensures { λ r. ⌜ r ≡ cond (isBijective (schemaOf (opened .target)) (mappingOf (opened .source) (opened .mapping))) (cond (hasFewComponents (schemaOf (opened .source)) (schemaOf (opened .target)) (mappingOf (opened .source) (opened .mapping))) 0 14) 13 ⌝ }
-{
-    let target = opened.target;
-    if is_bijective(opened.source, target, opened.mapping) {
-        let count = k.count;
-        if has_few_components(&count, target.graph.nodes) {
-            return 0;
-        }
-        return Refusal::WIDE;
-    }
-    Refusal::UNPAIRED
-}
-
-// Pi's tables of a run along a mapping that passed both tests.
-fn join_run(
-    x: Run,
-    k: Components,
-    run_links: &[u32],
-    run_values: &[u32],
-    links: &mut [u32],
-    values: &mut [u32],
-) -> Migrated
-    requires { ⌜ JoinableRun x k (now «run_links») (now «run_values») × Room (now links) (now values) ⌝ }
-    ensures { λ r. ⌜ Migrates r (now (links .exit)) (now (values .exit)) (joinedRun (runInputOf (x .opened) (x .run) (now («run_links» .entry)) (now («run_values» .entry)))) ⌝ }
-{
-    let mut rows = [0u16; Listing::NUMBERS];
-    let opened = x.opened;
-    let target = opened.target;
-    let joined = pi::pi(
-        opened.source,
-        target,
-        opened.target_paths,
-        opened.mapping,
-        x.run,
-        k,
-        run_links,
-        run_values,
-        &mut rows,
-        &mut *links,
-        &mut *values,
-    );
-    let tables = joined.tables;
-    if joined.fits {
-        return Migrated {
-            refusal: Refusal {
-                number: 0,
-                place: 0,
-            },
-            schema: target,
-            tables: tables,
-        };
-    }
-    Migrated {
-        refusal: Refusal {
-            number: Refusal::OVERFULL,
-            place: 0,
-        },
-        schema: target,
-        tables: tables,
-    }
-}
-
-// Pi's tables in working arrays.
-fn pi_tables(
-    s: &[u8],
-    t: &[u8],
-    f: &[u8],
-    i: &[u8],
-    links: &mut [u32],
-    values: &mut [u32],
-) -> Migrated
-    requires { ⌜ Room (now links) (now values) ⌝ }
-    ensures { λ r. ⌜ Migrates r (now (links .exit)) (now (values .exit)) (piTables (now (s .entry)) (now (t .entry)) (now (f .entry)) (now (i .entry))) ⌝ }
-{
-    let mut run_links = [0u32; Instance::LINKS];
-    let mut run_values = [0u32; Instance::VALUES];
-    let x = open_run(s, t, f, i, &mut run_links, &mut run_values);
-    let opened = x.opened;
-    let target = opened.target;
-    let run = x.run;
-    let sheets = x.refusal;
-    if sheets.number == 0 {
-        let k = components(opened.source, target, opened.target_paths, opened.mapping);
-        let tests = Refusal {
-            number: unjoinable(opened, k),
-            place: 0,
-        };
-        if tests.number == 0 {
-            return join_run(x, k, &run_links, &run_values, &mut *links, &mut *values);
-        }
-        return Migrated {
-            refusal: tests,
-            schema: target,
-            tables: run,
-        };
-    }
-    Migrated {
-        refusal: sheets,
-        schema: target,
-        tables: run,
-    }
-}
-
-// Pi: writes the instance of t that the mapping f from s to t makes of the instance i of s. Refuses with 1 to 6 at the places of s and t,
-// with 1, 2, 7 and 8 at that of f, with 1, 2, 3, 9, 10 and 11 at that of i, and with 13, 14, 15 and 16 at place 0.
-pub fn pi(s: &[u8], t: &[u8], f: &[u8], i: &[u8], tray: &mut [u8]) -> Written
-    ensures { λ r. ⌜ lentOf r (now (tray .exit)) ≡ inTray (now (tray .entry)) (sheetOf (piTables (now (s .entry)) (now (t .entry)) (now (f .entry)) (now (i .entry)))) ⌝ }
-{
-    let mut links = [0u32; Instance::LINKS];
-    let mut values = [0u32; Instance::VALUES];
-    let migrated = pi_tables(s, t, f, i, &mut links, &mut values);
-    write_migrated(migrated, &links, &values, &mut *tray)
 }

@@ -13,8 +13,7 @@ use Rattle.schema.specs.Decoded.{graphOf, schemaOf}
 use Rattle.schema.proofs.GraphEdges.{edges-count, source-at, target-at}
 use Rattle.paths.specs.declared.Paths.{Paths}
 use Rattle.instance.specs.declared.Instance.{Instance}
-use Rattle.instance.specs.Decoded.{rowsOf, columnOf, columnsOf, tablesOf}
-use Rattle.instance.specs.Stored.{ColumnsStored}
+use Rattle.instance.specs.Decoded.{rowsOf, columnOf, tablesOf}
 use Rattle.mapping.specs.declared.Mapping.{Mapping}
 use Rattle.mapping.specs.Decoded.{mappingOf}
 use Rattle.pi.specs.declared.components.Components.{Components}
@@ -65,17 +64,15 @@ module _ {s t : Schema} {paths : Paths} {f : Mapping} {k : Components} {run : In
           ap (λ (w : List ℕ). rowPlace table (tableRows counts (k .count) there .first) (getD counts there 0) w (getD (k .count) there 0)) restricted
           ∙ placed (restrictTo here there e (family x))
 
-    module _ (r : List ℕ) (same : (x : ℕ) → x < rowsOf (t .graph .source) counts e → getD r (512 * e + x) 0 ≡ linkRow (t .graph) paths k counts table e x) where
-      column-is : columnOf r (512 * e) (rowsOf (t .graph .source) counts e) ≡ map (linkTo (source (graphOf (t .graph)) e) (target (graphOf (t .graph)) e) e) (familiesOf s t f run links (source (graphOf (t .graph)) e))
-      column-is =
-          let a = L .count here (here-in M K e l) in
-          tabulate-same (rowsOf (t .graph .source) counts e) (λ x h. same x h ∙ link-is x (rw a at h))
-          ∙ ap (λ (n : ℕ). tabulate n (λ x. linkTo here there e (family x))) a
-          ∙ map-places (linkTo here there e) [] (familiesOf s t f run links here)
-          ∙ ap₂ (λ (d h : ℕ). map (linkTo d h e) (familiesOf s t f run links d)) (sym (source-at (t .graph .edges) (t .graph .source) (t .graph .target) e l)) (sym (target-at (t .graph .edges) (t .graph .source) (t .graph .target) e l))
+    column-is : tabulate (rowsOf (t .graph .source) counts e) (linkRow (t .graph) paths k counts table e) ≡ map (linkTo (source (graphOf (t .graph)) e) (target (graphOf (t .graph)) e) e) (familiesOf s t f run links (source (graphOf (t .graph)) e))
+    column-is =
+        let a = L .count here (here-in M K e l) in
+        tabulate-same (rowsOf (t .graph .source) counts e) (λ x h. link-is x (rw a at h))
+        ∙ ap (λ (n : ℕ). tabulate n (λ x. linkTo here there e (family x))) a
+        ∙ map-places (linkTo here there e) [] (familiesOf s t f run links here)
+        ∙ ap₂ (λ (d h : ℕ). map (linkTo d h e) (familiesOf s t f run links d)) (sym (source-at (t .graph .edges) (t .graph .source) (t .graph .target) e l)) (sym (target-at (t .graph .edges) (t .graph .source) (t .graph .target) e l))
 
-  pub links-are : {o r : List ℕ} (values : List ℕ) → ColumnsStored (t .graph .edges) (rowsOf (t .graph .source) counts) (linkRow (t .graph) paths k counts table) o r
-      → columnsOf (t .graph .edges) (rowsOf (t .graph .source) counts) r ≡ pi (schemaOf s) (schemaOf t) (mappingOf s f) (tablesOf s run links values) .links
-  links-are {r = r} values u =
-      tabulate-upto (t .graph .edges) (λ e l. column-is e l r (u .each e l))
+  pub links-are : (values : List ℕ) → tabulate (t .graph .edges) (λ e. tabulate (rowsOf (t .graph .source) counts e) (linkRow (t .graph) paths k counts table e)) ≡ pi (schemaOf s) (schemaOf t) (mappingOf s f) (tablesOf s run links values) .links
+  links-are values =
+      tabulate-upto (t .graph .edges) column-is
       ∙ ap (λ (n : ℕ). map (λ e. map (linkTo (source (graphOf (t .graph)) e) (target (graphOf (t .graph)) e) e) (familiesOf s t f run links (source (graphOf (t .graph)) e))) (upto n)) (sym (edges-count (t .graph .edges) (t .graph .source) (t .graph .target)))

@@ -23,8 +23,8 @@ use Rattle.schema.proofs.SoundSchema.{home-in}
 use Rattle.paths.specs.declared.Paths.{Paths}
 use Rattle.paths.proofs.PathNumbers.{trivial-at, trivial-count}
 use Rattle.instance.specs.declared.Instance.{Instance}
-use Rattle.instance.specs.Decoded.{rowsOf, columnOf, columnsOf, tablesOf}
-use Rattle.instance.specs.Stored.{Stored, ColumnsStored}
+use Rattle.instance.specs.Decoded.{rowsOf, columnOf, tablesOf}
+use Rattle.instance.specs.Stored.{Stored}
 use Rattle.mapping.specs.declared.Mapping.{Mapping}
 use Rattle.mapping.specs.Decoded.{mappingOf}
 use Rattle.mapping.proofs.Viewing.{attributes-count, attribute-is}
@@ -91,20 +91,18 @@ module _ {s t : Schema} {paths : Paths} {f : Mapping} {k : Components} {run : In
         ap (entryOf values (512 * a) (rowsOf (s .node) (run .counts) a)) (entry-is M K L d d-in x h (valuePlace s t paths k a b) ∙ ap (λ (p : ℕ). getD (family x) p 0) place-of)
         ∙ value-is s run links values a (getD (family x) (componentAt (schemaOf t) (componentsOf s t f d) (attributeNode s a) (path d [])) 0) a-in
 
-    module _ (r : List ℕ) (same : (x : ℕ) → x < rowsOf (t .node) counts b → getD r (512 * b + x) 0 ≡ valueRow s t paths k (f .attribute) (run .counts) counts table values b x) where
-      column-is : columnOf r (512 * b) (rowsOf (t .node) counts b) ≡ map (valueAt (schemaOf s) (schemaOf t) (mappingOf s f) I b) (familiesOf s t f run links (attributeAt (schemaOf t) b .node))
-      column-is =
-          let n = L .count d d-in in
-          tabulate-same (rowsOf (t .node) counts b) (λ x h. same x h ∙ read x (rw n at h))
-          ∙ ap (λ (m : ℕ). tabulate m (λ x. valueFrom a (attributeNode s a) d (family x))) n
-          ∙ map-places (valueFrom a (attributeNode s a) d) [] (familiesOf s t f run links d)
-          ∙ ap (λ (c : ℕ). map (valueFrom a c d) (familiesOf s t f run links d)) (ap (λ (x : Attribute). x .node) (sym (attribute-is s a a-in)))
-          ∙ ap (λ (x : Attribute). map (valueFrom a (attributeAt (schemaOf s) a .node) (x .node)) (familiesOf s t f run links (x .node))) (sym (attribute-is t b l))
+    column-is : tabulate (rowsOf (t .node) counts b) (valueRow s t paths k (f .attribute) (run .counts) counts table values b) ≡ map (valueAt (schemaOf s) (schemaOf t) (mappingOf s f) I b) (familiesOf s t f run links (attributeAt (schemaOf t) b .node))
+    column-is =
+        let n = L .count d d-in in
+        tabulate-same (rowsOf (t .node) counts b) (λ x h. read x (rw n at h))
+        ∙ ap (λ (m : ℕ). tabulate m (λ x. valueFrom a (attributeNode s a) d (family x))) n
+        ∙ map-places (valueFrom a (attributeNode s a) d) [] (familiesOf s t f run links d)
+        ∙ ap (λ (c : ℕ). map (valueFrom a c d) (familiesOf s t f run links d)) (ap (λ (x : Attribute). x .node) (sym (attribute-is s a a-in)))
+        ∙ ap (λ (x : Attribute). map (valueFrom a (attributeAt (schemaOf s) a .node) (x .node)) (familiesOf s t f run links (x .node))) (sym (attribute-is t b l))
 
-  pub values-are : {o r : List ℕ} → ColumnsStored (t .attributes) (rowsOf (t .node) counts) (valueRow s t paths k (f .attribute) (run .counts) counts table values) o r
-      → columnsOf (t .attributes) (rowsOf (t .node) counts) r ≡ pi (schemaOf s) (schemaOf t) (mappingOf s f) I .values
-  values-are {r = r} u =
-      tabulate-upto (t .attributes) (λ b l. column-is b l r (u .each b l))
+  pub values-are : tabulate (t .attributes) (λ b. tabulate (rowsOf (t .node) counts b) (valueRow s t paths k (f .attribute) (run .counts) counts table values b)) ≡ pi (schemaOf s) (schemaOf t) (mappingOf s f) I .values
+  values-are =
+      tabulate-upto (t .attributes) column-is
       ∙ ap (λ (n : ℕ). map (λ b. map (valueAt (schemaOf s) (schemaOf t) (mappingOf s f) I b) (familiesOf s t f run links (attributeAt (schemaOf t) b .node))) (upto n)) (sym (attributes-count t))
 
 -- ---- values stored row by row
