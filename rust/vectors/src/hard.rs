@@ -1,19 +1,13 @@
 //! Sheets made to be hard for Pi's search for families, with their answers and
 //! what a call on them may take.
-//!
-//! A puzzle has a table of points and a table of pairs of points (S), and asks
-//! for a point at each of some places such that certain places have a pair (T):
-//! a place is an edge of T to the pairs, and equations make two ends one place.
-//! No puzzle has a solution, so that every way has to be tried or cut off.
 
 use crate::build::*;
 use crate::call::{Call, Case};
+use crate::kinds::*;
 use crate::puzzles::complete_graph;
+use crate::rules::{Puzzle, MOST_BYTES};
 use reference::plain::*;
 use std::time::Duration;
-
-/// The most bytes that the sheet of an instance has.
-const MOST_BYTES: usize = 51_220;
 
 /// A call of Pi that is hard to answer.
 #[derive(Debug, Clone)]
@@ -22,8 +16,7 @@ pub struct HardSheet {
     pub case: Case,
     /// The result's sheet, or the number of the refusal.
     pub answer: Result<Vec<u8>, u8>,
-    /// So much processor time the call may take: at least ten times what it took
-    /// when this was written.
+    /// So much processor time the call may take.
     pub most: Duration,
 }
 
@@ -33,31 +26,28 @@ impl HardSheet {
         HardSheet { case, answer, most: Duration::from_secs(1) }
     }
 
+    /// A puzzle and its solutions.
+    pub fn of(name: &str, (puzzle, solutions): Solved) -> Self {
+        Self::new(puzzle.case(name), puzzle.result(solutions))
+    }
+
     fn taking_seconds(self, seconds: u64) -> Self {
         HardSheet { most: Duration::from_secs(seconds), ..self }
     }
 
-    /// Points at the ends of `edges`, each edge a pair among `pairs`, asked in
-    /// `tables` tables of T that are linked one behind the other.
-    fn of_pairs(name: &str, edges: &Pairs, points: usize, pairs: &Pairs, tables: usize) -> Self {
-        let ends = [(1, 0), (1, 0)];
-        let mut links = ends.to_vec();
-        links.extend(edges.iter().map(|_| (2, 1)));
-        links.extend((1..tables).map(|table| (2 + table, 1 + table)));
-        let mut t = graph(2 + tables, &links);
-        t.equations = one_place(edges);
-        let run = instance(&[points, pairs.len()], &[&side(pairs, 0), &side(pairs, 1)]);
-        let mut unsolved = run.clone();
-        unsolved.rows.resize(2 + tables, 0);
-        unsolved.links.resize(links.len(), vec![]);
-        let case = pi(name, graph(2, &ends), t, mapping(&[0, 1], &[&[0], &[1]]), run);
-        Self::new(case, Ok(unsolved))
+    /// Points at the ends of `edges`, each edge a pair among `pairs`; there is no
+    /// solution.
+    fn of_pairs(name: &str, edges: &Pairs, points: usize, pairs: &Pairs) -> Self {
+        let rows = |pairs: &Pairs| pairs.iter().map(|&(a, b)| vec![a, b]).collect();
+        Self::of(name, (Puzzle::new(points, rows(pairs), rows(edges)), vec![]))
     }
 
     /// 32 components of two rows, and 32 over a table with so many rows.
     fn doubled(name: &str, rows: usize, answer: Result<Instance, u8>) -> Self {
-        let (t, run) = (doubled_chain(6), instance(&[2, rows], &[]));
-        Self::new(pi(name, graph(2, &[]), t, mapping(&[5, 5], &[]), run), answer)
+        let (s, t, f) = (graph(2, &[]), doubled_chain(6), mapping(&[5, 5], &[]));
+        let sheets = vec![s.to_sheet(), t.to_sheet(), f.to_sheet()];
+        let sheets = [sheets, vec![instance(&[2, rows], &[]).to_sheet()]].concat();
+        Self::new(Case::new(name, Call::Pi, sheets).with_tray(MOST_BYTES), answer)
     }
 
     /// Copies of the colourings of a complete graph.
@@ -68,33 +58,7 @@ impl HardSheet {
     }
 }
 
-fn pi(name: &str, s: Schema, t: Schema, f: Mapping, run: Instance) -> Case {
-    let sheets = vec![s.to_sheet(), t.to_sheet(), f.to_sheet(), run.to_sheet()];
-    Case::new(name, Call::Pi, sheets).with_tray(MOST_BYTES)
-}
-
 type Pairs = Vec<(usize, usize)>;
-
-fn side(pairs: &Pairs, end: usize) -> Vec<usize> {
-    pairs.iter().map(|&(a, b)| [a, b][end]).collect()
-}
-
-/// Equations that make all ends of edges at one point one place.
-fn one_place(edges: &Pairs) -> Vec<Equation> {
-    let most = edges.iter().map(|&(a, b)| a.max(b)).max().map_or(0, |point| point + 1);
-    let at = |point: usize| -> Vec<[usize; 2]> {
-        let ends = edges.iter().enumerate();
-        ends.flat_map(|(n, &(a, b))| {
-            let ends = [(a, 0), (b, 1)];
-            ends.into_iter().filter(move |&(p, _)| p == point).map(move |(_, end)| [2 + n, end])
-        })
-        .collect()
-    };
-    let same = |ends: Vec<[usize; 2]>| -> Vec<Equation> {
-        ends.windows(2).map(|two| equation(2, &two[0], &two[1])).collect()
-    };
-    (0..most).flat_map(|point| same(at(point))).collect()
-}
 
 /// All pairs of different points.
 fn clique(points: usize) -> Pairs {
@@ -116,9 +80,11 @@ fn empty(tables: usize, edges: usize) -> Instance {
     instance(&vec![0; tables], &vec![&[][..]; edges])
 }
 
-/// The hard sheets, the hardest last.
+/// The hard sheets.
 pub fn hard_sheets() -> Vec<HardSheet> {
-    of_components().into_iter().chain(of_points()).chain(hardest()).collect()
+    let all: [Vec<HardSheet>; 4] =
+        [of_components().into(), of_points().into(), hardest().into(), of_kinds().into()];
+    all.concat()
 }
 
 /// Few rows at each of 60 components and more.
@@ -148,29 +114,54 @@ fn of_points() -> [HardSheet; 6] {
     let mut two_groups = clique(4);
     two_groups.extend(clique(5).iter().map(|&(a, b)| (a + 4, b + 4)));
     [
-        of("20 edges on 10 points in 3 colours", &ten_points, 3, &coloured(3, 3), 1),
-        of("5 points all different in 4 colours", &clique(5), 4, &coloured(4, 4), 1),
-        of("6 points all different in 5 colours", &clique(6), 5, &coloured(5, 5), 1),
+        of("20 edges on 10 points in 3 colours", &ten_points, 3, &coloured(3, 3)),
+        of("5 points all different in 4 colours", &clique(5), 4, &coloured(4, 4)),
+        of("6 points all different in 5 colours", &clique(6), 5, &coloured(5, 5)),
         of(
             "two groups: 4 points that can differ, 5 that cannot, in 4 colours",
             &two_groups,
             4,
             &coloured(4, 4),
-            1,
         ),
-        of("ring of 21, each row forced, 128 rows", &ring(21), 128, &ring(128), 1),
-        of("ring of 27, each row forced, 250 rows", &ring(27), 250, &ring(250), 1),
+        of("ring of 21, each row forced, 128 rows", &ring(21), 128, &ring(128)),
+        of("ring of 27, each row forced, 250 rows", &ring(27), 250, &ring(250)),
     ]
 }
 
 fn hardest() -> [HardSheet; 3] {
-    let of = HardSheet::of_pairs;
     let mut most_of_seven = clique(7);
     most_of_seven.retain(|&pair| pair != (0, 1) && pair != (0, 2));
-    let pairs = coloured(24, 5);
+    let (name, pairs) = ("7 points, 19 pairs, 24 of 5 colours", coloured(24, 5));
+    let six = Colouring { points: 6, pairs: 15, values: 24, colours: 5, idle: (0, 0) };
+    let (puzzle, none) = six.solved(0);
+    let in_4_tables = (Puzzle { tables: 4, ..puzzle.clone() }, none.clone());
     [
-        of("6 points, all pairs, 24 of 5 colours", &clique(6), 24, &pairs, 1).taking_seconds(15),
-        of("the same in 4 tables", &clique(6), 24, &pairs, 4).taking_seconds(60),
-        of("7 points, 19 pairs, 24 of 5 colours", &most_of_seven, 24, &pairs, 1).taking_seconds(60),
+        HardSheet::of("6 points, all pairs, 24 of 5 colours", (puzzle, none)).taking_seconds(2),
+        HardSheet::of("the same in 4 tables", in_4_tables).taking_seconds(8),
+        HardSheet::of_pairs(name, &most_of_seven, 24, &pairs).taking_seconds(10),
     ]
+}
+
+/// Each kind of puzzle.  A search that takes the components in their order needs
+/// more than a minute for each but the colouring and the ring.  The largest puzzle
+/// of the last kind, 32 edges between 16 vertices modulo 7, is not here: no search
+/// is known that ends.
+fn of_kinds() -> Vec<HardSheet> {
+    let crossword = Crossword { side: 5, letters: 10, words: 250, free: 7 };
+    let five = Colouring { points: 5, pairs: 10, values: 4, colours: 4, idle: (15, 4) };
+    let sums = |sums: usize, numbers: usize, modulus: usize| Sums { sums, numbers, modulus };
+    let seven = Colouring { points: 7, pairs: 19, values: 24, colours: 5, idle: (0, 0) };
+    let (ring, flow) = (Ring { places: 27, values: 250 }, Flow { vertices: 14, modulus: 3 });
+    let puzzles = [
+        ("7 free components of 2 rows, 5 words by 5 of 250", crossword.solved(3)),
+        ("15 idle components of 4 rows, 5 points in 4 colours", five.solved(0)),
+        ("16 sums of 3 of 16 numbers modulo 20", sums(16, 16, 20).solved(290)),
+        ("15 sums of 3 of 17 numbers modulo 15", sums(15, 17, 15).solved(190)),
+        ("16 sums of 3 of 17 numbers modulo 19", sums(16, 17, 19).solved(528)),
+        ("7 points, 19 pairs by chance, 24 of 5 colours", seven.solved(1)),
+        ("ring of 27, each row forced, 250 rows by chance", ring.solved(1)),
+    ];
+    let sheets = puzzles.map(|(name, solved)| HardSheet::of(name, solved).taking_seconds(2));
+    let last = HardSheet::of("28 edges between 14 vertices modulo 3", flow.solved(1));
+    sheets.into_iter().chain([last.taking_seconds(30)]).collect()
 }

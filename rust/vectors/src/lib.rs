@@ -6,7 +6,9 @@
 //! - [`damage`] makes one sheet of such a set one that is sent back;
 //! - [`papers`], [`limits`], [`puzzles`], [`stream`] are the cases, [`record`] the vector
 //!   file and [`report`] their count by outcome;
-//! - [`hard`] has the cases that are hardest for Pi, with what they may take.
+//! - [`rules`] makes sheets of a puzzle, [`kinds`] has puzzles of six kinds and any
+//!   size with their solutions, which [`modular`] finds for some, and [`hard`] the
+//!   cases that are hardest for Pi, with what they may take.
 
 #![forbid(unsafe_code)]
 #![warn(missing_docs)]
@@ -19,13 +21,16 @@ pub mod damage;
 pub mod even;
 pub mod hard;
 pub mod instances;
+pub mod kinds;
 pub mod limits;
 pub mod mappings;
+pub mod modular;
 pub mod papers;
 pub mod puzzles;
 pub mod random;
 pub mod record;
 pub mod report;
+pub mod rules;
 pub mod schemas;
 pub mod stream;
 pub mod world;
