@@ -3,14 +3,16 @@
 //! - `bench` prints for each case the nanoseconds of a call by the library, the
 //!   reference and, for Sigma and the check of instances, the plain version, and
 //!   before them what is kept from call to call.
-//! - `bench names` prints the cases; `bench once NAME WHO` makes one call, for a
-//!   counter of instructions.
+//! - `bench names` prints the cases, `bench trials` the puzzles on which the trials
+//!   of Pi's search are counted; `bench once NAME WHO` makes one call, for a counter
+//!   of instructions.
 //! - `bench sql ROWS FOLDER` writes the same push as SQL scripts.
 
 #![forbid(unsafe_code)]
 
 mod inputs;
 mod sql;
+mod trials;
 
 use inputs::inputs;
 use std::hint::black_box;
@@ -120,7 +122,8 @@ fn table() {
 /// One call by name, the first on its sheets, with a tray that nothing has
 /// touched yet.
 fn once(name: &str, who: &str) -> Result<(), String> {
-    let case = inputs().into_iter().find(|case| case.name == name);
+    let input = || inputs().into_iter().find(|case| case.name == name);
+    let case = trials::puzzle(name).or_else(input);
     let case = case.ok_or_else(|| format!("no case is named {name}"))?;
     let mut versions = ALL.into_iter().filter(|&(_, version)| answers(version, case.call));
     let version = versions.find(|(name, _)| *name == who);
@@ -145,9 +148,13 @@ fn main() -> ExitCode {
             }
             Ok(())
         }
+        ["trials"] => {
+            trials::names().for_each(|name| println!("{name}"));
+            Ok(())
+        }
         ["once", name, who] => once(name, who),
         ["sql", rows, folder] => write_scripts(rows, folder),
-        _ => Err("usage: bench [names | once NAME WHO | sql ROWS FOLDER]".to_string()),
+        _ => Err("usage: bench [names | trials | once NAME WHO | sql ROWS FOLDER]".to_string()),
     };
     match done {
         Ok(()) => ExitCode::SUCCESS,
