@@ -2,11 +2,11 @@
 //!
 //! - `bench` prints for each case the nanoseconds of a call by the library, the
 //!   reference and, for Sigma and the check of instances, the plain version, and
-//!   before them what is kept from call to call.
+//!   before them what is kept from call to call; `bench only NAME` prints a case.
 //! - `bench names` prints the cases, `bench trials` the puzzles on which the trials
 //!   of Pi's search are counted; `bench once NAME WHO` makes one call, for a counter
 //!   of instructions.
-//! - `bench sql ROWS FOLDER` writes the same push as SQL scripts.
+//! - `bench sql ROWS FOLDER` writes the same push for SQLite, as scripts and rows.
 
 #![forbid(unsafe_code)]
 
@@ -101,30 +101,37 @@ The least time of a call over 12 rounds of 40 ms, in batches of at least 1 ms:
 fn table() {
     print!("{STATE}");
     println!("{:28} {:>8} {:>12} {:>12} {:>12}", "case", "bytes", "library", "plain", "reference");
-    for case in inputs() {
-        let version = |(_, who): (_, Who)| answers(who, case.call).then(|| Timed::new(who, &case));
-        let mut versions = ALL.map(version);
-        for _ in 0..ROUNDS {
-            versions.iter_mut().flatten().for_each(Timed::round);
-        }
-        let bytes: usize = case.sheets.iter().map(Vec::len).sum();
-        print!("{:28} {bytes:>8}", case.name);
-        for version in versions {
-            match version {
-                Some(timed) => print!(" {:>9.0} ns", timed.least),
-                None => print!(" {:>12}", "-"),
-            }
-        }
-        println!();
+    inputs().iter().for_each(line);
+}
+
+/// The line of a case.
+fn line(case: &Case) {
+    let version = |(_, who): (_, Who)| answers(who, case.call).then(|| Timed::new(who, case));
+    let mut versions = ALL.map(version);
+    for _ in 0..ROUNDS {
+        versions.iter_mut().flatten().for_each(Timed::round);
     }
+    let bytes: usize = case.sheets.iter().map(Vec::len).sum();
+    print!("{:28} {bytes:>8}", case.name);
+    for version in versions {
+        match version {
+            Some(timed) => print!(" {:>9.0} ns", timed.least),
+            None => print!(" {:>12}", "-"),
+        }
+    }
+    println!();
+}
+
+/// The case of a name.
+fn input(name: &str) -> Result<Case, String> {
+    let input = || inputs().into_iter().find(|case| case.name == name);
+    trials::puzzle(name).or_else(input).ok_or_else(|| format!("no case is named {name}"))
 }
 
 /// One call by name, the first on its sheets, with a tray that nothing has
 /// touched yet.
 fn once(name: &str, who: &str) -> Result<(), String> {
-    let input = || inputs().into_iter().find(|case| case.name == name);
-    let case = trials::puzzle(name).or_else(input);
-    let case = case.ok_or_else(|| format!("no case is named {name}"))?;
+    let case = input(name)?;
     let mut versions = ALL.into_iter().filter(|&(_, version)| answers(version, case.call));
     let version = versions.find(|(name, _)| *name == who);
     let (_, who) = version.ok_or_else(|| format!("{name} is not answered by {who}"))?;
@@ -152,9 +159,11 @@ fn main() -> ExitCode {
             trials::names().for_each(|name| println!("{name}"));
             Ok(())
         }
+        ["only", name] => input(name).map(|case| line(&case)),
         ["once", name, who] => once(name, who),
-        ["sql", rows, folder] => write_scripts(rows, folder),
-        _ => Err("usage: bench [names | trials | once NAME WHO | sql ROWS FOLDER]".to_string()),
+        ["sql", rows, folder] => write_files(rows, folder),
+        _ => Err("usage: bench [names | trials | only NAME | once NAME WHO | sql ROWS FOLDER]"
+            .to_string()),
     };
     match done {
         Ok(()) => ExitCode::SUCCESS,
@@ -165,9 +174,9 @@ fn main() -> ExitCode {
     }
 }
 
-fn write_scripts(rows: &str, folder: &str) -> Result<(), String> {
+fn write_files(rows: &str, folder: &str) -> Result<(), String> {
     let rows = rows.parse().map_err(|_| format!("{rows} is no number of rows"))?;
-    for (name, text) in sql::scripts(rows) {
+    for (name, text) in sql::files(rows) {
         let file = Path::new(folder).join(name);
         std::fs::write(&file, text).map_err(|error| format!("{}: {error}", file.display()))?;
     }

@@ -1,23 +1,26 @@
-//! The same push in SQL: the tables of S with their rows, the tables of T, one
-//! statement for each table of T, and what Sigma gives, to compare with.
+//! The same push in SQL: the tables of S with what is asked of their rows, the
+//! run's rows, the equations of S as questions, the tables of T, one statement for
+//! each table of T, and what Sigma gives, to compare with.
 
 use crate::inputs::{half_schema, rows, two_copies};
 use reference::plain::*;
 
-/// The scripts by their names: what makes all tables and fills those of S, and
-/// those of Sigma's result; what pushes; what empties the tables of T again; and
-/// a question for the number of rows that differ from Sigma's.
-pub fn scripts(total: usize) -> [(&'static str, String); 4] {
+/// The files by their names: what makes all tables and fills those of Sigma's
+/// result; what loads a row into each table of S, and the rows; what asks for a row
+/// where an equation does not hold; what pushes; what empties the tables of T, and
+/// those of S; a question for the number of rows that differ from Sigma's; and rows
+/// with a mistake each, a link, a value and an equation.
+pub fn files(total: usize) -> Vec<(&'static str, String)> {
     let t = half_schema();
     let (s, f) = two_copies(&t);
     let run = rows(&s, total / 16);
     let sigma = reference::migrate::sigma(&s, &t, &f, &run).expect("an even mapping");
+    let targets_first = targets_first(&s);
     let setup = [
-        "BEGIN;\n".to_string(),
-        tables("s", &s),
-        tables("t", &t),
-        tables("sigma", &t),
-        fill("s", &s, &run),
+        "PRAGMA foreign_keys = ON;\nBEGIN;\n".to_string(),
+        targets_first.iter().map(|&node| table("s", node, &s, asked)).collect(),
+        (0..t.nodes).map(|node| table("t", node, &t, nothing_asked)).collect(),
+        (0..t.nodes).map(|node| table("sigma", node, &t, nothing_asked)).collect(),
         fill("sigma", &t, &sigma),
         "COMMIT;\n".to_string(),
     ];
@@ -26,48 +29,149 @@ pub fn scripts(total: usize) -> [(&'static str, String); 4] {
         format!(" + (SELECT count(*) FROM (SELECT * FROM {a}{d} EXCEPT SELECT * FROM {b}{d}))")
     };
     let differing: String = each(&|d| other("t", "sigma", d) + &other("sigma", "t", d));
-    [
+    let sources_first = targets_first.iter().rev();
+    let rows = |&node: &usize| (0..run.rows[node]).map(|row| values(&s, &run, node, row)).collect();
+    let loaded: Loaded = targets_first.iter().map(rows).collect();
+    let [link, value, equation] = mistakes(&loaded);
+    vec![
         ("setup.sql", setup.concat()),
+        ("load.sql", targets_first.iter().map(|&node| load(&s, node)).collect()),
+        ("check.sql", s.equations.iter().map(|equation| broken(&s, equation)).collect()),
         ("push.sql", each(&|d| push(&s, &t, &f, d))),
         ("clear.sql", each(&|d| format!("DELETE FROM t{d};\n"))),
+        ("unload.sql", sources_first.map(|node| format!("DELETE FROM s{node};\n")).collect()),
         ("differing.sql", format!("SELECT 0{differing};\n")),
+        ("run.rows", text(&loaded)),
+        ("link.rows", text(&link)),
+        ("value.rows", text(&value)),
+        ("equation.rows", text(&equation)),
     ]
 }
 
-/// The tables of a schema.
-fn tables(name: &str, schema: &Schema) -> String {
-    (0..schema.nodes).map(|node| table(name, node, schema)).collect()
+/// The tables, each after those that its links lead to.
+fn targets_first(schema: &Schema) -> Vec<usize> {
+    let mut order: Vec<usize> = Vec::new();
+    while order.len() < schema.nodes {
+        let known = |&edge: &usize| order.contains(&schema.edges[edge].target);
+        let next = (0..schema.nodes)
+            .find(|&node| !order.contains(&node) && schema.edges_from(node).iter().all(known));
+        order.push(next.expect("a schema without a loop"));
+    }
+    order
 }
 
-/// The rows of an instance.
+/// For each table its rows, for each row its number, its links and its values.
+type Loaded = Vec<Vec<Vec<u64>>>;
+
+/// The rows with a link to a row that is not there, with a value beyond its kind's
+/// largest, and with a link to another row than its twin's.
+fn mistakes(loaded: &Loaded) -> [Loaded; 3] {
+    let with = |change: fn(&mut Vec<u64>, u64)| {
+        let mut loaded = loaded.clone();
+        let count = loaded[0].len() as u64;
+        // The tables have as many rows each, and the last one has links and a value.
+        change(loaded.last_mut().and_then(|rows| rows.last_mut()).expect("a row"), count);
+        loaded
+    };
+    [
+        with(|row, count| row[1] = count),
+        with(|row, _| *row.last_mut().expect("a value") = 1 << 32),
+        with(|row, count| row[1] = (row[1] + 1) % count),
+    ]
+}
+
+/// The rows of all tables, each table after the number of its rows.
+fn text(loaded: &Loaded) -> String {
+    let words = |row: &Vec<u64>| row.iter().map(|n| format!("{n} ")).collect::<String>() + "\n";
+    let table = |rows: &Vec<Vec<u64>>| {
+        format!("{}\n", rows.len()) + &rows.iter().map(words).collect::<String>()
+    };
+    loaded.iter().map(table).collect()
+}
+
+/// The rows of an instance, as statements.
 fn fill(name: &str, schema: &Schema, instance: &Instance) -> String {
     let mut text = String::new();
     for node in 0..schema.nodes {
         for row in 0..instance.rows[node] {
-            let values = values(schema, instance, node, row);
+            let values = values(schema, instance, node, row).into_iter().map(|v| v.to_string());
+            let values = values.collect::<Vec<_>>().join(", ");
             text += &format!("INSERT INTO {name}{node} VALUES ({values});\n");
         }
     }
     text
 }
 
-fn columns(schema: &Schema, node: usize) -> Vec<String> {
-    let links = schema.edges_from(node).into_iter().map(|edge| format!("l{edge}"));
-    let values = schema.attributes_at(node).into_iter().map(|a| format!("v{a}"));
-    links.chain(values).collect()
+/// A column and what is asked of it.
+type Asked = fn(&Schema, Column) -> String;
+
+/// A column of a table: the link along an edge, or an attribute.
+#[derive(Clone, Copy)]
+enum Column {
+    Link(usize),
+    Value(usize),
 }
 
-fn table(name: &str, node: usize, schema: &Schema) -> String {
-    let columns = columns(schema, node).into_iter().map(|column| format!(", {column} INTEGER"));
-    let columns: String = columns.collect();
+fn nothing_asked(_: &Schema, _: Column) -> String {
+    String::new()
+}
+
+/// A link leads to a row that is there, a value is one of its kind.
+fn asked(schema: &Schema, column: Column) -> String {
+    match column {
+        Column::Link(edge) => format!(" NOT NULL REFERENCES s{}(row)", schema.edges[edge].target),
+        Column::Value(a) => {
+            let largest = LARGEST_VALUES[schema.attributes[a].kind];
+            format!(" NOT NULL CHECK (v{a} BETWEEN 0 AND {largest})")
+        }
+    }
+}
+
+fn columns(schema: &Schema, node: usize) -> Vec<Column> {
+    let links = schema.edges_from(node).into_iter().map(Column::Link);
+    links.chain(schema.attributes_at(node).into_iter().map(Column::Value)).collect()
+}
+
+fn table(name: &str, node: usize, schema: &Schema, asked: Asked) -> String {
+    let column = |column: Column| match column {
+        Column::Link(edge) => format!(", l{edge} INTEGER{}", asked(schema, column)),
+        Column::Value(a) => format!(", v{a} INTEGER{}", asked(schema, column)),
+    };
+    let columns: String = columns(schema, node).into_iter().map(column).collect();
     format!("CREATE TABLE {name}{node} (row INTEGER PRIMARY KEY{columns});\n")
 }
 
-fn values(schema: &Schema, run: &Instance, node: usize, row: usize) -> String {
-    let links = schema.edges_from(node).into_iter().map(|edge| run.links[edge][row].to_string());
-    let columns = schema.attributes_at(node).into_iter().map(|a| run.values[a][row].to_string());
-    let all: Vec<String> = [row.to_string()].into_iter().chain(links).chain(columns).collect();
-    all.join(", ")
+fn values(schema: &Schema, run: &Instance, node: usize, row: usize) -> Vec<u64> {
+    let value = |column: Column| match column {
+        Column::Link(edge) => run.links[edge][row] as u64,
+        Column::Value(a) => u64::from(run.values[a][row]),
+    };
+    [row as u64].into_iter().chain(columns(schema, node).into_iter().map(value)).collect()
+}
+
+/// The statement that loads a row.
+fn load(s: &Schema, node: usize) -> String {
+    format!("INSERT INTO s{node} VALUES (?{});\n", ", ?".repeat(columns(s, node).len()))
+}
+
+/// The question for a row where the two sides of an equation lead to different
+/// rows.
+fn broken(s: &Schema, equation: &Equation) -> String {
+    let mut tables = format!("s{} AS start", equation.left.start);
+    let mut side = |name: &str, path: &Path| {
+        let mut end = "start.row".to_string();
+        for (step, &edge) in path.edges.iter().enumerate() {
+            let from = if step == 0 { "start".into() } else { format!("{name}{step}") };
+            if step > 0 {
+                let table = s.edges[edge].source;
+                tables += &format!(" JOIN s{table} AS {from} ON {from}.row = {end}");
+            }
+            end = format!("{from}.l{edge}");
+        }
+        end
+    };
+    let (left, right) = (side("p", &equation.left), side("q", &equation.right));
+    format!("SELECT 1 FROM {tables} WHERE {left} <> {right};\n")
 }
 
 /// The first place of a table's rows in the joined list.
