@@ -61,6 +61,19 @@ enum {
 /* A tray of this many bytes holds every instance sheet, and of this many every matching sheet. */
 enum { MIGRATION_INSTANCE_BYTES = 51220, MIGRATION_MATCHING_BYTES = 576 };
 
+/* The calls have their working arrays on the stack. A call needs at most so many bytes of it, whatever it is lent, below the frame that makes it;
+ * a thread that makes the call needs them besides what its own code needs. */
+enum {
+    MIGRATION_STACK_CHECK_SCHEMA = 16384,
+    MIGRATION_STACK_CHECK_MAPPING = 40960,
+    MIGRATION_STACK_CHECK_INSTANCE = 122880,
+    MIGRATION_STACK_SAME_PATH = 20480,
+    MIGRATION_STACK_DELTA = 253952,
+    MIGRATION_STACK_SIGMA = 262144,
+    MIGRATION_STACK_PI = 524288,
+    MIGRATION_STACK_MATCHINGS = 401408 /* each of the four calls with a list of partners */
+};
+
 /* Taking an answer apart; number and place are those of a refusal. */
 static inline int migration_accepted(uint64_t answer) { return answer >> 32 == 0; }
 static inline unsigned migration_number(uint64_t answer) { return (unsigned)(answer >> 8 & 0xff); }

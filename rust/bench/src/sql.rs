@@ -2,8 +2,8 @@
 //! run's rows, the equations of S as questions, the tables of T, one statement for
 //! each table of T, and what Sigma gives, to compare with.
 
-use crate::inputs::{half_schema, rows, two_copies};
 use reference::plain::*;
+use vectors::full::{half_schema, rows, two_copies};
 
 /// The files by their names: what makes all tables and fills those of Sigma's
 /// result; what loads a row into each table of S, and the rows; what asks for a row

@@ -1,4 +1,5 @@
-//! The header's constants for refusals, by document 01's words.
+//! The header's constants: for refusals, by document 01's words; for sizes; and for
+//! stacks, by the wrapper's names.
 
 use reference::refusal;
 
@@ -25,3 +26,14 @@ pub const INSTANCE_BYTES: &str = "MIGRATION_INSTANCE_BYTES";
 
 /// The most bytes of a matching sheet.
 pub const MATCHING_BYTES: &str = "MIGRATION_MATCHING_BYTES";
+
+/// Names of the header and the wrapper's numbers of them.
+macro_rules! stacks {
+    ($($name:ident)*) => { [$((concat!("MIGRATION_", stringify!($name)), migration::$name)),*] };
+}
+
+/// The bytes of stack that the calls need, which are tried where the wrapper is.
+pub const STACKS: [(&str, usize); 8] = stacks! {
+    STACK_CHECK_SCHEMA STACK_CHECK_MAPPING STACK_CHECK_INSTANCE STACK_SAME_PATH STACK_DELTA
+    STACK_SIGMA STACK_PI STACK_MATCHINGS
+};

@@ -1,17 +1,41 @@
 //! What the C program finds, with the reference in the library's place.
 
 use crate::arguments::{export, of_prototype, Argument, TRAY};
-use crate::constants::constant;
+use crate::constants::{constant, STACKS};
 use crate::read::Header;
 use crate::trials::Trial;
+use std::fmt;
 use vectors::answer::{reference_outcome, Outcome, FILLING};
 use vectors::call::{Call, Case};
 
-/// The place of the first trial that fails, if one does.
-pub fn first_failure(header: &Header, trials: &[Trial]) -> Result<Option<usize>, String> {
+/// What the program finds first.
+#[derive(Debug, Clone, Copy, PartialEq, Eq)]
+pub enum Failure {
+    /// The constant for a stack has another number than the wrapper's.
+    Stack(&'static str),
+    /// The trial at a place fails.
+    Trial(usize),
+}
+
+/// What the program prints begins like this.
+impl fmt::Display for Failure {
+    fn fmt(&self, out: &mut fmt::Formatter<'_>) -> fmt::Result {
+        match self {
+            Failure::Stack(name) => write!(out, "{name}: "),
+            Failure::Trial(place) => write!(out, "trial {place}, "),
+        }
+    }
+}
+
+/// What fails first, if anything does.
+pub fn first_failure(header: &Header, trials: &[Trial]) -> Result<Option<Failure>, String> {
+    let differs = |(name, bytes): &(&str, usize)| header.value(name) != Some(*bytes as u64);
+    if let Some((name, _)) = STACKS.into_iter().find(differs) {
+        return Ok(Some(Failure::Stack(name)));
+    }
     for (place, trial) in trials.iter().enumerate() {
         if !passes(header, trial)? {
-            return Ok(Some(place));
+            return Ok(Some(Failure::Trial(place)));
         }
     }
     Ok(None)

@@ -44,6 +44,25 @@ static const struct trial trials[] = {
 /* TRIALS */
 };
 
+/* A constant for a stack, and the wrapper's number of it. */
+static const struct stack {
+    const char *name;
+    unsigned long found;
+    unsigned long expected;
+} stacks[] = {
+/* STACKS */
+};
+
+static int stacks_are_expected(void) {
+    for (size_t k = 0; k < sizeof stacks / sizeof stacks[0]; k++) {
+        if (stacks[k].found != stacks[k].expected) {
+            printf("%s: expected %lu; found %lu\n", stacks[k].name, stacks[k].expected, stacks[k].found);
+            return 0;
+        }
+    }
+    return 1;
+}
+
 /* The bytes of each room that are filled before the call and compared after it. */
 static size_t used(const struct trial *trial) {
     size_t most = trial->after.length;
@@ -145,7 +164,7 @@ static int answers_are_taken_apart(void) {
 
 int main(void) {
     const size_t count = sizeof trials / sizeof trials[0];
-    if (!answers_are_taken_apart())
+    if (!answers_are_taken_apart() || !stacks_are_expected())
         return 1;
     for (null_where_empty = 0; null_where_empty < 2; null_where_empty++)
         for (size_t k = 0; k < count; k++)

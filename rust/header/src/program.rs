@@ -1,7 +1,7 @@
 //! The C program that tries a header.
 
 use crate::arguments::{export, of_prototype, Argument};
-use crate::constants::constant;
+use crate::constants::{constant, STACKS};
 use crate::read::{Header, Word};
 use crate::trials::Trial;
 use std::collections::BTreeSet;
@@ -18,7 +18,10 @@ pub fn program(header: &Header, trials: &[Trial]) -> Result<String, String> {
         calls += &call_text(header, call)?;
     }
     let table = trials.iter().map(trial_text).collect::<Result<String, _>>()?;
-    Ok(TEMPLATE.replace("/* CALLS */\n", &calls).replace("/* TRIALS */\n", &table))
+    let stack = |(name, bytes): (&str, usize)| format!("    {{\"{name}\", {name}, {bytes}}},\n");
+    let stacks: String = STACKS.into_iter().map(stack).collect();
+    let program = TEMPLATE.replace("/* CALLS */\n", &calls).replace("/* TRIALS */\n", &table);
+    Ok(program.replace("/* STACKS */\n", &stacks))
 }
 
 /// Each function and each constant of the header is tried, and each that is tried
@@ -49,11 +52,12 @@ fn same_names<'a>(
     rest.first().map_or(Ok(()), |name| Err(format!("the header lacks {name}")))
 }
 
-/// The constants that the trials name.
+/// The constants that the program names.
 fn constants_of(trials: &[Trial]) -> BTreeSet<String> {
+    let stacks = STACKS.into_iter().map(|(name, _)| name.to_string());
     let refusals = trials.iter().filter_map(|trial| constant(trial.outcome.answer.err()?.number));
     let sizes = trials.iter().flat_map(|trial| trial.constants()).map(str::to_string);
-    refusals.chain(sizes).collect()
+    stacks.chain(refusals).chain(sizes).collect()
 }
 
 /// The function that makes a call of a trial.

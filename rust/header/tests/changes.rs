@@ -7,7 +7,7 @@ use header::arguments::{export, Argument};
 use header::changes::{
     exchanged_functions, exchanged_numbers, exchanged_parameters, other_numbers, Change,
 };
-use header::model::{answers_alike, first_failure};
+use header::model::{answers_alike, first_failure, Failure};
 use header::program::program;
 use header::read::Header;
 use header::trials::trials;
@@ -17,19 +17,19 @@ fn read(text: &str) -> Header {
     Header::read(text).expect("a header that can be read")
 }
 
-/// The trial at which a change is found, by the model.
-fn found(change: &Change) -> usize {
+/// Where a change is found, by the model.
+fn found(change: &Change) -> Failure {
     let failure = first_failure(&read(&change.text), trials());
     let failure = failure.unwrap_or_else(|error| panic!("{}: {error}", change.name));
     failure.unwrap_or_else(|| panic!("{} is not found", change.name))
 }
 
-/// The change is found in C at the same trial as by the model.
+/// The change is found in C where the model finds it.
 fn is_found_in_c(folder: &str, change: &Change) {
     let program = program(&read(&change.text), trials()).expect("a program");
     let printed = run_with(folder, &change.text, &program).expect_err(&change.name);
-    let trial = format!("trial {}, ", found(change));
-    assert!(printed.starts_with(&trial), "{}: {printed}", change.name);
+    let first = found(change).to_string();
+    assert!(printed.starts_with(&first), "{}: {printed}", change.name);
 }
 
 /// Why no program is made for a header's text.
@@ -42,7 +42,7 @@ fn refused(text: &str) -> String {
 fn a_wrong_number_is_found() {
     let text = header_text();
     let wrong = other_numbers(&text, &read(&text));
-    assert_eq!(wrong.len(), 2 * 19);
+    assert_eq!(wrong.len(), 2 * 27);
     for (place, change) in wrong.iter().enumerate() {
         found(change);
         if place % 2 == 0 {

@@ -5,7 +5,7 @@ mod common;
 
 use common::{header_text, repository, run};
 use header::arguments::export;
-use header::constants::{constant, INSTANCE_BYTES, MATCHING_BYTES, REFUSALS};
+use header::constants::{constant, INSTANCE_BYTES, MATCHING_BYTES, REFUSALS, STACKS};
 use header::model::first_failure;
 use header::program::program;
 use header::read::Header;
@@ -69,6 +69,10 @@ fn the_wrapper_has_the_same_words_and_sizes() {
     }
     assert_eq!(header.value(INSTANCE_BYTES), Some(migration::MOST_INSTANCE_BYTES as u64));
     assert_eq!(header.value(MATCHING_BYTES), Some(migration::MOST_MATCHING_BYTES as u64));
+    for (name, bytes) in STACKS {
+        assert_eq!(header.value(name), Some(bytes as u64), "{name}");
+        assert_eq!(bytes % 1024, 0, "{name}");
+    }
 }
 
 /// A function's name, and the type and the name of each parameter, as in C.

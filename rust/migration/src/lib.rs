@@ -26,6 +26,13 @@
 //! # Ok::<(), migration::Refusal>(())
 //! ```
 //!
+//! # Stack
+//!
+//! The calls have their working arrays on the stack.  A call needs at most as many
+//! bytes of it as its constant says ([`STACK_PI`] and the others), whatever it is
+//! lent, below the frame that makes it; a thread that makes the call needs them
+//! besides what its own code needs.
+//!
 //! # Where the answers come from
 //!
 //! The calls are those of `libmigration.a`, the static library that is built
@@ -56,6 +63,30 @@ pub const MOST_INSTANCE_BYTES: usize = 51_220;
 /// The most bytes that a matching sheet has: 512 rows of 9 bits.  A tray of
 /// this size holds every result of a turning.
 pub const MOST_MATCHING_BYTES: usize = 576;
+
+/// The stack that [`check_schema`] needs.
+pub const STACK_CHECK_SCHEMA: usize = 16 * 1024;
+
+/// The stack that [`check_mapping`] needs.
+pub const STACK_CHECK_MAPPING: usize = 40 * 1024;
+
+/// The stack that [`check_instance`] needs.
+pub const STACK_CHECK_INSTANCE: usize = 120 * 1024;
+
+/// The stack that [`same_path`] needs.
+pub const STACK_SAME_PATH: usize = 20 * 1024;
+
+/// The stack that [`delta`] needs.
+pub const STACK_DELTA: usize = 248 * 1024;
+
+/// The stack that [`sigma`] needs.
+pub const STACK_SIGMA: usize = 256 * 1024;
+
+/// The stack that [`pi`] needs.
+pub const STACK_PI: usize = 512 * 1024;
+
+/// The stack that each of the two checkers and the two turnings needs.
+pub const STACK_MATCHINGS: usize = 392 * 1024;
 
 /// The result as bytes of its own: the call fills a tray that holds every
 /// result, which is then cut to the result's length.

@@ -119,6 +119,9 @@ impl Case {
     /// The most bytes that a tray has: its length is a 16-bit number.
     pub const MOST_TRAY: usize = 65_535;
 
+    /// The most bytes that a result has: those of the longest sheet of an instance.
+    pub const MOST_RESULT: usize = 51_220;
+
     /// A case of a call without a tray, or with an empty one.
     pub fn new(name: impl Into<String>, call: Call, sheets: Vec<Vec<u8>>) -> Self {
         assert_eq!(sheets.len(), call.sheets().len());

@@ -5,7 +5,7 @@ use crate::build::*;
 use crate::call::{Call, Case};
 use crate::kinds::*;
 use crate::puzzles::complete_graph;
-use crate::rules::{Puzzle, MOST_BYTES};
+use crate::rules::Puzzle;
 use reference::plain::*;
 use std::time::Duration;
 
@@ -47,7 +47,7 @@ impl HardSheet {
         let (s, t, f) = (graph(2, &[]), doubled_chain(6), mapping(&[5, 5], &[]));
         let sheets = vec![s.to_sheet(), t.to_sheet(), f.to_sheet()];
         let sheets = [sheets, vec![instance(&[2, rows], &[]).to_sheet()]].concat();
-        Self::new(Case::new(name, Call::Pi, sheets).with_tray(MOST_BYTES), answer)
+        Self::new(Case::new(name, Call::Pi, sheets).with_tray(Case::MOST_RESULT), answer)
     }
 
     /// Copies of the colourings of a complete graph.

@@ -4,7 +4,7 @@
 //! - [`schemas`], [`instances`], [`mappings`], [`even`] make sheets that are
 //!   accepted, [`world`] sets of them that fit together;
 //! - [`damage`] makes one sheet of such a set one that is sent back;
-//! - [`papers`], [`limits`], [`puzzles`], [`stream`] are the cases, [`record`] the vector
+//! - [`papers`], [`full`], [`limits`], [`puzzles`], [`stream`] are the cases, [`record`] the vector
 //!   file and [`report`] their count by outcome;
 //! - [`rules`] makes sheets of a puzzle, [`kinds`] has puzzles of six kinds and any
 //!   size with their solutions, which [`modular`] finds for some, and [`hard`] the
@@ -19,6 +19,7 @@ pub mod build;
 pub mod call;
 pub mod damage;
 pub mod even;
+pub mod full;
 pub mod hard;
 pub mod instances;
 pub mod kinds;

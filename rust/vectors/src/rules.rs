@@ -12,9 +12,6 @@ use crate::build::*;
 use crate::call::{Call, Case};
 use reference::plain::*;
 
-/// The most bytes that the sheet of an instance has.
-pub const MOST_BYTES: usize = 51_220;
-
 /// A puzzle.
 #[derive(Debug, Clone)]
 pub struct Puzzle {
@@ -86,7 +83,7 @@ impl Puzzle {
         let f = identity(&s);
         let sheets = [s.to_sheet(), self.schema(links).to_sheet(), f.to_sheet()];
         let sheets = [&sheets[..], &[self.run().to_sheet()]].concat();
-        Case::new(name, Call::Pi, sheets).with_tray(MOST_BYTES)
+        Case::new(name, Call::Pi, sheets).with_tray(Case::MOST_RESULT)
     }
 
     /// T, with the links of S.

@@ -1,0 +1,139 @@
+//! Every call on the base example, and on sheets of full size.
+
+use crate::base::*;
+use crate::build::*;
+use crate::call::{Call, Case};
+use reference::plain::*;
+
+/// Every call on document 01's base example.
+pub fn base() -> Vec<Case> {
+    let (s, t, f, run, book) = (base_s(), base_t(), base_f(), base_run(), base_book());
+    let sides = |partners: &[usize]| {
+        let list = list(partners);
+        vec![s.clone(), t.clone(), f.clone(), run.clone(), book.clone(), list]
+    };
+    let (pushed, raw) = (sides(&[2, 0, 1, 0, 1]), sides(&[2, 0, 0, 1, 1]));
+    let trivial = path(0, &[]).to_sheet();
+    let same = identity(&Schema::accept(&t).expect("the base example")).to_sheet();
+    let mapped = |more: &Vec<u8>| vec![s.clone(), t.clone(), f.clone(), more.clone()];
+    let cases = [
+        (Call::CheckSchema, vec![s.clone()]),
+        (Call::CheckMapping, vec![s.clone(), t.clone(), f.clone()]),
+        (Call::CheckInstance, vec![s.clone(), run.clone()]),
+        (Call::SamePath, vec![s.clone(), trivial.clone(), trivial]),
+        (Call::Delta, mapped(&book)),
+        (Call::Sigma, mapped(&run)),
+        (Call::Pi, vec![t.clone(), t.clone(), same, book.clone()]),
+        (Call::CheckPushed, pushed.clone()),
+        (Call::CheckRaw, raw.clone()),
+        (Call::PushedToRaw, pushed),
+        (Call::RawToPushed, raw),
+    ];
+    let name = |call: Call| format!("base.{}", call.name());
+    cases
+        .map(|(call, sheets)| Case::new(name(call), call, sheets).with_tray(Case::MOST_RESULT))
+        .to_vec()
+}
+
+/// 8 nodes, 16 edges, 8 columns, 16 equations, 128 paths: a doubled chain of 5
+/// steps and 6 parallel edges; twins are equal.
+pub fn half_schema() -> Schema {
+    let chain = (0..5).flat_map(|n| [(n, n + 1); 2]);
+    let mut schema = graph(8, &chain.chain([(6, 7); 6]).collect::<Vec<_>>());
+    let twins = (0..5).map(|n| equation(n, &[2 * n], &[2 * n + 1]));
+    let parallel = (10..15).map(|e| equation(6, &[e], &[e + 1]));
+    let way = |turns: usize| (0..5).map(|n| 2 * n + (turns >> n & 1)).collect::<Vec<_>>();
+    let long = (0..6).map(|turns| equation(0, &way(turns), &way(31 - turns)));
+    schema.equations = twins.chain(parallel).chain(long).collect();
+    schema.attributes = (0..8).map(|node| Attribute { node, kind: node % 2 }).collect();
+    schema
+}
+
+/// Two copies of a schema, one after the other, and the mapping to it.
+pub fn two_copies(t: &Schema) -> (Schema, Mapping) {
+    let (nodes, edges) = (t.nodes, t.edges.len());
+    let moved = |p: &Path| Path {
+        start: p.start + nodes,
+        edges: p.edges.iter().map(|edge| edge + edges).collect(),
+    };
+    let mut s = t.clone();
+    s.nodes += nodes;
+    s.edges.extend(
+        t.edges.iter().map(|e| Edge { source: e.source + nodes, target: e.target + nodes }),
+    );
+    s.attributes.extend(t.attributes.iter().map(|a| Attribute { node: a.node + nodes, ..*a }));
+    let second = |e: &Equation| Equation { left: moved(&e.left), right: moved(&e.right) };
+    s.equations.extend(t.equations.iter().map(second));
+    let once = identity(t);
+    let f = Mapping {
+        nodes: [once.nodes.clone(), once.nodes].concat(),
+        edges: [once.edges.clone(), once.edges].concat(),
+        attributes: [once.attributes.clone(), once.attributes].concat(),
+    };
+    (s, f)
+}
+
+/// An instance with so many rows in each table; twin links are equal.
+pub fn rows(schema: &Schema, each: usize) -> Instance {
+    let link = |edge: &Edge| {
+        let row = |row: usize| (7 * row + edge.source) % each;
+        (0..each).map(row).collect()
+    };
+    let column = |attribute: &Attribute| {
+        let value = |row: usize| (2_654_435_761 * (row + 600 * attribute.node)) as u32;
+        (0..each).map(value).collect()
+    };
+    Instance {
+        rows: vec![each; schema.nodes],
+        links: schema.edges.iter().map(link).collect(),
+        values: schema.attributes.iter().map(column).collect(),
+    }
+}
+
+/// Every call on sheets of full size: S with 16 nodes, 32 edges, 16 columns, 32
+/// equations, 256 paths, the run with 512 rows; Sigma and the matching calls
+/// along the mapping of two copies to one.
+pub fn full() -> Vec<Case> {
+    let t = half_schema();
+    let (s, f) = two_copies(&t);
+    let (run, book) = (rows(&s, 32), rows(&t, 32));
+    let same = identity(&s).to_sheet();
+    let partners = || (0..32).collect::<Vec<usize>>();
+    let raw = Matching { partners: (0..16).map(|_| partners()).collect() };
+    let pushed = raw.to_pushed(&t, &f).to_sheet();
+    let raw = raw.to_sheet();
+    // The book's own rows, pulled back: what the lists are matchings of.
+    let pulled = reference::migrate::delta(&s, &f, &book).expect("512 rows").to_sheet();
+    let (s, t, f) = (s.to_sheet(), t.to_sheet(), f.to_sheet());
+    let (run, book) = (run.to_sheet(), book.to_sheet());
+    let mapped = |more: &Vec<u8>| vec![s.clone(), t.clone(), f.clone(), more.clone()];
+    let sides = |list: &Vec<u8>| [mapped(&pulled), vec![book.clone(), list.clone()]].concat();
+    let way = |turns: usize| (0..5).map(|n| 2 * n + (turns >> n & 1)).collect::<Vec<_>>();
+    let (p, q) = (path(0, &way(3)).to_sheet(), path(0, &way(28)).to_sheet());
+    let cases = [
+        (Call::CheckSchema, vec![s.clone()]),
+        (Call::CheckMapping, vec![s.clone(), t.clone(), f.clone()]),
+        (Call::CheckInstance, vec![s.clone(), run.clone()]),
+        (Call::SamePath, vec![s.clone(), p, q]),
+        (Call::Delta, mapped(&book)),
+        (Call::Sigma, mapped(&run)),
+        (Call::Pi, vec![s.clone(), s.clone(), same, run.clone()]),
+        (Call::CheckPushed, sides(&pushed)),
+        (Call::CheckRaw, sides(&raw)),
+        (Call::PushedToRaw, sides(&pushed)),
+        (Call::RawToPushed, sides(&raw)),
+    ];
+    let name = |call: Call| format!("full.{}", call.name());
+    cases
+        .map(|(call, sheets)| Case::new(name(call), call, sheets).with_tray(Case::MOST_RESULT))
+        .to_vec()
+}
+
+/// Sigma at full size but for the number of rows.
+pub fn grown(total: usize) -> Case {
+    let t = half_schema();
+    let (s, f) = two_copies(&t);
+    let run = rows(&s, total / 16).to_sheet();
+    let sheets = vec![s.to_sheet(), t.to_sheet(), f.to_sheet(), run];
+    Case::new(format!("rows.{total}"), Call::Sigma, sheets).with_tray(Case::MOST_RESULT)
+}
