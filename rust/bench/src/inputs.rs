@@ -13,8 +13,25 @@ pub fn inputs() -> Vec<Case> {
     let mut cases = base();
     cases.extend(full());
     cases.extend([64, 128, 256, 512].map(grown));
+    cases.extend([64, 128, 256, 512].map(joined));
     cases.extend(worst());
     cases
+}
+
+/// Pi along the identity on two tables with 32 links between them, of so many rows in
+/// all: a join that gives the run itself.
+fn joined(rows: usize) -> Case {
+    let s = graph(2, &[(0, 1); 32]);
+    let images: Vec<[usize; 1]> = (0..32).map(|edge| [edge]).collect();
+    let images: Vec<&[usize]> = images.iter().map(|image| &image[..]).collect();
+    let half = rows / 2;
+    let links: Vec<Vec<usize>> =
+        (0..32).map(|edge| (0..half).map(|row| (row + edge) % half).collect()).collect();
+    let links: Vec<&[usize]> = links.iter().map(|column| &column[..]).collect();
+    let run = instance(&[half, half], &links);
+    let f = mapping(&[0, 1], &images);
+    let sheets = vec![s.to_sheet(), s.to_sheet(), f.to_sheet(), run.to_sheet()];
+    Case::new(format!("join.{rows}"), Call::Pi, sheets).with_tray(MOST_INSTANCE_BYTES)
 }
 
 /// The longest sheets, and the schemas that cost most to refuse or to accept.
