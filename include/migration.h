@@ -103,8 +103,8 @@ uint64_t migration_sigma(const uint8_t *s, size_t s_len, const uint8_t *t, size_
 
 /* Pi along a mapping from S to T (places 1 to 3) of an instance of S (place 4): an instance sheet of T, written to the tray.
  * At place 0: 13, 14, 15, 16. Joins as people have them take time in proportion to their rows. Sheets can be made on which Pi takes longer than
- * anyone waits, since what it asks is NP-hard: who takes sheets from strangers gives the call a limit of time. Every other call ends within a
- * millisecond, whatever it is lent. */
+ * anyone waits, since what it asks is NP-hard: who takes sheets from strangers gives the call a limit of time. The other calls have work in
+ * proportion to their sheets, and to the paths of their schemas. */
 uint64_t migration_pi(const uint8_t *s, size_t s_len, const uint8_t *t, size_t t_len, const uint8_t *f, size_t f_len,
                       const uint8_t *i, size_t i_len, uint8_t *tray, size_t tray_len);
 

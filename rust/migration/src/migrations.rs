@@ -95,7 +95,8 @@ pub fn sigma_into(
 }
 
 /// Pi of an instance of S (place 4) along a mapping of S to T: the sheet of an
-/// instance of T.
+/// instance of T.  Sheets can be made on which it takes longer than anyone waits,
+/// since what Pi asks is NP-hard: who takes sheets from strangers gives it a limit.
 ///
 /// ```
 /// let s = [0x10, 0x20, 0x00, 0x04]; // an edge 0 to 1
