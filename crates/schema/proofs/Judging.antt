@@ -15,7 +15,7 @@ use Rattle.meaning.proofs.Tabulate.{and-both, all-at}
 use Rattle.schema.specs.declared.Schema.{Schema}
 use Rattle.schema.specs.Decoded.{Decoded, Limits, emptySchema, graphOf, schemaOf}
 use Rattle.schema.specs.Counted.{Fit}
-use Rattle.schema.specs.Judged.{Says}
+use Rattle.schema.specs.Judged.{Tested, Says}
 
 pub faulty-says : {t : Schema} {k : ℕ} {J : Judged meaning.Schema} → t ≡ emptySchema k → (k ≡ 0 → ⊥) → J ≡ faulty k → Says t J
 faulty-says {k} e some h = rw (e, h) (record {
@@ -27,6 +27,16 @@ faulty-says {k} e some h = rw (e, h) (record {
     few = refl;
   };
 })
+
+pub tested-faulty : {t : Schema} {k : ℕ} {J : Judged meaning.Schema} → (k ≡ 0 → ⊥) → J ≡ faulty k → Tested t k J
+tested-faulty {k} some h = rw h (record { says = rw (ne-eqb k 0 some); sound = λ q. absurd (some q) })
+
+module _ {t : Schema} {k : ℕ} {J : Judged meaning.Schema} (d : Tested t k J) where
+  pub tested-says : k ≡ 0 → t .fault ≡ 0 → Says t J
+  tested-says e f = record { says = rw (eq-eqb (t .fault) 0 f) (rw (eq-eqb k 0 e) at (d .says)); sound = d .sound e }
+
+  pub tested-fault : (k ≡ 0 → ⊥) → J ≡ faulty k
+  tested-fault e = sym (d .says) ∙ rw (ne-eqb k 0 e)
 
 module _ {t : Schema} {J : Judged meaning.Schema} (d : Decoded t J) where
   pub decoded-sound : t .fault ≡ 0 → J ≡ sound (schemaOf t)

@@ -1,5 +1,5 @@
 -- What the tests from 4 up say of decoded structs, and what the judges promise.
-use Prim.Native.Nat.{_≤_}
+use Prim.Native.Nat.{ℕ, _≤_}
 use mathlib.Core.Path.{_≡_}
 use mathlib.Core.Bool.{true, false, cond}
 use lib.Dec.{eqb}
@@ -23,6 +23,11 @@ pub record Sound (t : Schema) : Type 0 where
   pub well-formed : isWellFormed (schemaOf t) ≡ true
   pub acyclic : meaning.hasLoop (graphOf (t .graph)) ≡ false
   pub few : hasFewPaths (graphOf (t .graph)) ≡ true
+
+-- the number of the first test that a decoded schema fails, or 0
+pub record Tested (t : Schema) (number : ℕ) (J : Judged meaning.Schema) : Type 0 where
+  pub says : cond (eqb number 0) (sound (schemaOf t)) (faulty number) ≡ J
+  pub sound : (number ≡ 0 → Sound t)
 
 pub record Says (t : Schema) (J : Judged meaning.Schema) : Type 0 where
   pub says : judgedSchema t ≡ J

@@ -11,8 +11,7 @@ ghost use mathlib.Core.Bool.{true};
 ghost use Prim.Native.Nat.{_+_, _*_, _≤_};
 ghost use lib.ListN.{length};
 ghost use Rattle.bits.specs.Field.{field};
-ghost use Rattle.meaning.specs.Sheet.{onSheet};
-ghost use Rattle.meaning.specs.Formats.{countsInLimits, readSchema};
+ghost use Rattle.meaning.specs.Formats.{countsInLimits};
 ghost use Rattle.meaning.proofs.Formats.{countsIn};
 ghost use Rattle.schema.specs.Decoded.{Block, Column, Near, GraphTaken, PathTaken, EquationTaken, EquationsTaken, countsOf, onBody, Decoded};
 
@@ -189,7 +188,7 @@ fn read_graph(s: &[u8], nodes: usize, edges: usize) -> Graph
 }
 
 // The leading counts.
-struct Counts {
+pub(crate) struct Counts {
     nodes: usize,
     edges: usize,
     attributes: usize,
@@ -197,10 +196,10 @@ struct Counts {
 }
 
 impl Counts {
-    const BITS: usize = 22;
+    pub(crate) const BITS: usize = 22;
 }
 
-fn read_counts(s: &[u8]) -> Counts
+pub(crate) fn read_counts(s: &[u8]) -> Counts
     requires { ⌜ 22 ≤ 8 * length (now s) ⌝ }
     ensures { λ r. ⌜ countsOf r ≡ countsIn (now (s .entry)) ⌝ }
 {
@@ -217,7 +216,7 @@ fn read_counts(s: &[u8]) -> Counts
 }
 
 // Whether each count is within its limit, and there is a node.
-fn in_limits(c: Counts) -> bool
+pub(crate) fn in_limits(c: Counts) -> bool
     ensures { λ r. ⌜ r ≡ countsInLimits (countsOf c) ⌝ }
 {
     if c.nodes < 1 {
@@ -235,8 +234,8 @@ fn in_limits(c: Counts) -> bool
     c.equations <= Schema::EQUATIONS
 }
 
-// What follows the leading counts.
-fn decode_body(s: &[u8], c: Counts) -> Schema
+// What follows the leading counts, or the number with which the sheet is sent back before any test of its sense.
+pub(crate) fn decode_body(s: &[u8], c: Counts) -> Schema
     requires { ⌜ (22 ≤ 8 * length (now s)) × (countsInLimits (countsOf c) ≡ true) ⌝ }
     ensures { λ r. ⌜ Decoded r (onBody (countsOf c) (now (s .entry))) ⌝ }
 {
@@ -269,18 +268,4 @@ fn decode_body(s: &[u8], c: Counts) -> Schema
         };
     }
     Schema::faulty(faults::TAIL)
-}
-
-// What a schema sheet says, or the number with which it is sent back before any test of its sense.
-pub fn decode_schema(s: &[u8]) -> Schema
-    ensures { λ r. ⌜ Decoded r (onSheet readSchema (now (s .entry))) ⌝ }
-{
-    if lacks_at(s, 0, Counts::BITS) {
-        return Schema::faulty(faults::CUT);
-    }
-    let c = read_counts(s);
-    if in_limits(c) {
-        return decode_body(s, c);
-    }
-    Schema::faulty(faults::COUNT)
 }

@@ -7,11 +7,13 @@ pub mod numbers;
 pub mod well_formed;
 
 use bits::reader::ends_at;
+use bits::reader::lacks_at;
+use decode::Counts;
 ghost use mathlib.Core.Path.{_≡_};
 ghost use Prim.Native.Nat.{_≤_};
 ghost use Rattle.meaning.specs.Judge.{testSchema, judgeSchema, judgePath};
 ghost use Rattle.schema.specs.Decoded.{emptyPath, emptySchema, graphOf, schemaOf, Limits};
-ghost use Rattle.schema.specs.Judged.{Says, PathSays};
+ghost use Rattle.schema.specs.Judged.{Tested, Says, PathSays};
 
 // Nodes (tables) and edges (links): all that paths depend on.
 pub struct Graph {
@@ -94,38 +96,49 @@ impl Schema {
     }
 }
 
-// Tests 4, 5 and 6. Where there are too many paths to go over, a loop shows in their counts.
-fn test_schema(t: Schema) -> Schema
-    requires { ⌜ Limits t × (t .fault ≡ 0) ⌝ }
-    ensures { λ r. ⌜ Says r (testSchema (schemaOf t)) ⌝ }
+// Tests 4, 5 and 6: the first number that applies, or 0. Where there are too many paths to go over, a loop shows in their counts.
+fn fault_of(t: Schema) -> u8
+    requires { ⌜ Limits t ⌝ }
+    ensures { λ r. ⌜ Tested t r (testSchema (schemaOf t)) ⌝ }
 {
     if well_formed::is_well_formed(t) {
         let g = t.graph;
         let count = count::count_paths(g);
         if count.paths > Schema::PATHS {
             if count.looped {
-                return Schema::faulty(faults::RING);
+                return faults::RING;
             }
-            return Schema::faulty(faults::CROWD);
+            return faults::CROWD;
         }
         if heights::has_loop(g) {
-            return Schema::faulty(faults::RING);
+            return faults::RING;
         }
-        return t;
+        return 0;
     }
-    Schema::faulty(faults::STRAY)
+    faults::STRAY
 }
 
 // A schema sheet judged: what it says, or the first number that applies to it.
 pub fn judge_schema(s: &[u8]) -> Schema
     ensures { λ r. ⌜ Says r (judgeSchema (now (s .entry))) ⌝ }
 {
-    let t = decode::decode_schema(s);
-    let fault = t.fault;
-    if fault == 0 {
-        return test_schema(t);
+    if lacks_at(s, 0, Counts::BITS) {
+        return Schema::faulty(faults::CUT);
     }
-    Schema::faulty(fault)
+    let c = decode::read_counts(s);
+    if decode::in_limits(c) {
+        let t = decode::decode_body(s, c);
+        let early = t.fault;
+        if early == 0 {
+            let fault = fault_of(t);
+            if fault == 0 {
+                return t;
+            }
+            return Schema::faulty(fault);
+        }
+        return Schema::faulty(early);
+    }
+    Schema::faulty(faults::COUNT)
 }
 
 // A path sheet judged: the path, where fault is 0, or the number with which the sheet is sent back.

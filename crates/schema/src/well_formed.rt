@@ -103,9 +103,10 @@ fn attributes_fit(t: Schema) -> bool
 {
     let n = t.attributes;
     let nodes = t.graph.nodes;
+    let node = t.node;
     let mut i = 0;
     while i < n {
-        if wide(t.node[i]) < nodes {
+        if wide(node[i]) < nodes {
             i += 1;
         } else {
             return false;
@@ -114,16 +115,22 @@ fn attributes_fit(t: Schema) -> bool
     true
 }
 
+// Where there are no equations, the arrays of their sides are not copied.
 fn equations_fit(t: Schema) -> bool
     requires { ⌜ Limits t ⌝ }
     ensures { λ r. ⌜ r ≡ all (equationFits (graphOf (t .graph))) (schemaOf t .equations) ⌝ }
 {
     let n = t.equations;
+    if n == 0 {
+        return true;
+    }
     let g = t.graph;
+    let left = t.left;
+    let right = t.right;
     let mut i = 0;
     while i < n {
-        let a = t.left[i];
-        let b = t.right[i];
+        let a = left[i];
+        let b = right[i];
         if equation_fits(g, a, b) {
             i += 1;
         } else {

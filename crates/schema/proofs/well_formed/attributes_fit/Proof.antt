@@ -1,6 +1,7 @@
 -- `schema::well_formed::attributes_fit` meets its contract. The invariant: the first i attributes fit.
-use Prim.Native.Nat.{_-_}
+use Prim.Native.Nat.{ℕ, _-_}
 use mathlib.Core.Path.{sym}
+use mathlib.Core.List.{List}
 use native.Mathlib.Omega.{arith}
 use lib.ListN.{getD}
 use borrow.Author.Needs.{needs}
@@ -12,16 +13,16 @@ use Rattle.schema.proofs.well_formed.attributes_fit.Statement.{statemen
 use Rattle.schema.proofs.well_formed.attributes_fit.Tie as tie
 
 abbrev Inv-loop : tie.InvT-loop
-Inv-loop t n nodes i₀ i = Passed {A = meaning.Attribute} (λ a. ltb (a .node) (t .graph .nodes)) (t .attributes) (λ k. record { node = getD (t .node) k 0; kind = getD (t .kind) k 0 }) i
+Inv-loop n nodes node i₀ i = (kind : List ℕ) → Passed {A = meaning.Attribute} (λ a. ltb (a .node) nodes) n (λ k. record { node = getD node k 0; kind = getD kind k 0 }) i
 
 abbrev μ-loop : tie.MeasureT-loop
-μ-loop t n nodes i₀ i = t .attributes - i
+μ-loop n nodes node i₀ i = n - i
 
 loop-holds : tie.Need-loop-holds Inv-loop μ-loop
-loop-holds c = passed-start _ _ _
+loop-holds c = λ kind. passed-start _ _ _
 
-element-copy-out-wide : tie.Need-element-copy-out-wide Inv-loop μ-loop
-element-copy-out-wide c = search needs
+array-read-wide : tie.Need-array-read-wide Inv-loop μ-loop
+array-read-wide c = search needs
 
 wide-requires : tie.Need-wide-requires Inv-loop μ-loop
 wide-requires c κs = search needs
@@ -33,13 +34,13 @@ loop-less : tie.Need-loop-less Inv-loop μ-loop
 loop-less c = omega arith
 
 loop-again : tie.Need-loop-again Inv-loop μ-loop
-loop-again c = passed-more (c .before .before .before .before .loop .inv) (c .before .before .before .loop-test .taken) (lt-ltb _ _ (rw (c .before .wide .ensures) at (c .if1 .taken)))
+loop-again c = λ kind. passed-more (c .before .before .before .loop .inv kind) (c .before .before .loop-test .taken) (lt-ltb _ _ (rw (c .before .wide .ensures) at (c .if1 .taken)))
 
 returns : tie.Need-returns Inv-loop μ-loop
-returns c = sym (passed-fail (c .before .before .before .before .loop .inv) (c .before .before .before .loop-test .taken) (le-ltb _ _ (rw (c .before .wide .ensures) at (c .if1 .left))))
+returns c = sym (passed-fail (c .before .before .before .loop .inv (c .before .before .before .before .before .args .t .kind)) (c .before .before .loop-test .taken) (le-ltb _ _ (rw (c .before .wide .ensures) at (c .if1 .left))))
 
 returns-2 : tie.Need-returns-2 Inv-loop μ-loop
-returns-2 c = sym (passed-done (c .before .loop .inv) (c .loop-test .left))
+returns-2 c = sym (passed-done (c .before .loop .inv (c .before .before .before .args .t .kind)) (c .loop-test .left))
 
 pub attributes-fit-spec : {M : Type 1} → statement M
 attributes-fit-spec =
@@ -48,7 +49,7 @@ attributes-fit-spec =
     Inv-loop
     μ-loop
     loop-holds
-    element-copy-out-wide
+    array-read-wide
     wide-requires
     add-i
     loop-less

@@ -12,10 +12,13 @@ use Rattle.schema.proofs.well_formed.equations_fit.Statement.{statement
 use Rattle.schema.proofs.well_formed.equations_fit.Tie as tie
 
 abbrev Inv-loop : tie.InvT-loop
-Inv-loop t n g i₀ i = Passed {A = meaning.Equation} (equationFits (graphOf (t .graph))) (t .equations) (λ k. equationOf (getD (t .left) k noPath) (getD (t .right) k noPath)) i
+Inv-loop n g left right i₀ i = Passed {A = meaning.Equation} (equationFits (graphOf g)) n (λ k. equationOf (getD left k noPath) (getD right k noPath)) i
 
 abbrev μ-loop : tie.MeasureT-loop
-μ-loop t n g i₀ i = t .equations - i
+μ-loop n g left right i₀ i = n - i
+
+returns : tie.Need-returns Inv-loop μ-loop
+returns c = rw (c .if1 .taken)
 
 loop-holds : tie.Need-loop-holds Inv-loop μ-loop
 loop-holds c = passed-start _ _ _
@@ -23,17 +26,17 @@ loop-holds c = passed-start _ _ _
 mul-a : tie.Need-mul-a Inv-loop μ-loop
 mul-a c = search needs
 
-element-copy-out-a : tie.Need-element-copy-out-a Inv-loop μ-loop
-element-copy-out-a c = search needs
+array-copy-out-a : tie.Need-array-copy-out-a Inv-loop μ-loop
+array-copy-out-a c = search needs
 
 mul-b : tie.Need-mul-b Inv-loop μ-loop
 mul-b c = search needs
 
-element-copy-out-b : tie.Need-element-copy-out-b Inv-loop μ-loop
-element-copy-out-b c = search needs
+array-copy-out-b : tie.Need-array-copy-out-b Inv-loop μ-loop
+array-copy-out-b c = search needs
 
 equation-fits-requires : tie.Need-equation-fits-requires Inv-loop μ-loop
-equation-fits-requires c κs = let a = c .before .before .before .before .before .pre in (a .edges, a .left .each _ (c .before .before .loop-test .taken), a .right .each _ (c .before .before .loop-test .taken))
+equation-fits-requires c κs = let a = c .before .before .before .before .before .before .before .before .pre in (a .edges, a .left .each _ (c .before .before .loop-test .taken), a .right .each _ (c .before .before .loop-test .taken))
 
 add-i : tie.Need-add-i Inv-loop μ-loop
 add-i c = omega arith
@@ -42,13 +45,13 @@ loop-less : tie.Need-loop-less Inv-loop μ-loop
 loop-less c = omega arith
 
 loop-again : tie.Need-loop-again Inv-loop μ-loop
-loop-again c = passed-more (c .before .before .before .before .before .loop .inv) (c .before .before .before .before .loop-test .taken) (sym (c .before .equation-fits .ensures) ∙ c .if1 .taken)
-
-returns : tie.Need-returns Inv-loop μ-loop
-returns c = sym (passed-fail (c .before .before .before .before .before .loop .inv) (c .before .before .before .before .loop-test .taken) (sym (c .before .equation-fits .ensures) ∙ c .if1 .left))
+loop-again c = passed-more (c .before .before .before .before .before .loop .inv) (c .before .before .before .before .loop-test .taken) (sym (c .before .equation-fits .ensures) ∙ c .if2 .taken)
 
 returns-2 : tie.Need-returns-2 Inv-loop μ-loop
-returns-2 c = sym (passed-done (c .before .loop .inv) (c .loop-test .left))
+returns-2 c = sym (passed-fail (c .before .before .before .before .before .loop .inv) (c .before .before .before .before .loop-test .taken) (sym (c .before .equation-fits .ensures) ∙ c .if2 .left))
+
+returns-3 : tie.Need-returns-3 Inv-loop μ-loop
+returns-3 c = sym (passed-done (c .before .loop .inv) (c .loop-test .left))
 
 pub equations-fit-spec : {M : Type 1} → statement M
 equations-fit-spec =
@@ -56,14 +59,15 @@ equations-fit-spec =
     (tie.spec
     Inv-loop
     μ-loop
+    returns
     loop-holds
     mul-a
-    element-copy-out-a
+    array-copy-out-a
     mul-b
-    element-copy-out-b
+    array-copy-out-b
     equation-fits-requires
     add-i
     loop-less
     loop-again
-    returns
-    returns-2)
+    returns-2
+    returns-3)
