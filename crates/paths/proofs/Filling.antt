@@ -23,7 +23,7 @@ use Rattle.schema.specs.Counted.{Fit}
 use Rattle.schema.proofs.GraphEdges.{edges-count, source-at, target-at}
 use Rattle.paths.specs.declared.Paths.{Paths}
 use Rattle.paths.specs.PathNumbers.{initial, final, startOf, endOf, lengthOf, parentOf, lastOf, firstOf, leavingBelow, rankOf}
-use Rattle.paths.specs.Table.{Filled, Columns, Trivial}
+use Rattle.paths.specs.Table.{Filled, Ranked, Columns, Trivial, IsTable}
 use Rattle.paths.proofs.PathNumbers.{below-here, below-skip, trivial-at, trivial-count, first-more, first-end, next-at}
 use Rattle.paths.proofs.PathParents.{initial-one, final-one, first-after, parents}
 
@@ -209,7 +209,7 @@ module _ (G : Graph) (acyclic : hasLoop G ≡ false) where
       filling-first = let z : e ≡ length (G .edges) = omega (arith, f .within) in f .next ∙ ap (λ (m : ℕ). firstOf G h + length (leavingBelow G (endOf G h) m)) z ∙ sym (first-more G acyclic h less)
 
   -- no path is left
-  pub filling-done : {n h e : ℕ} {t : Paths} → Filling G n h e t → n ≤ h → (h ≡ pathCount G) × (n ≡ pathCount G)
+  filling-done : {n h e : ℕ} {t : Paths} → Filling G n h e t → n ≤ h → (h ≡ pathCount G) × (n ≡ pathCount G)
   filling-done {n} {h} {e} f l = go (ltb h (pathCount G)) refl
     where
       go : (b : Bool) → ltb h (pathCount G) ≡ b → (h ≡ pathCount G) × (n ≡ pathCount G)
@@ -219,3 +219,17 @@ module _ (G : Graph) (acyclic : hasLoop G ≡ false) where
           let z : h ≡ pathCount G = omega (arith, f .some) in
           let m : n ≡ firstOf G h + 0 = f .next ∙ ap (λ (m : ℕ). firstOf G h + length (leavingBelow G (endOf G h) m)) (f .fresh k) in
           (z, omega (arith, ap (firstOf G) z, first-end G acyclic))
+
+  -- and the table is whole, whatever its classes
+  pub filling-table : {n h e : ℕ} {t : Paths} {rank : List ℕ} → Filling G n h e t → n ≤ h → pathCount G ≤ 256 → Ranked G rank → {class : List ℕ}
+      → IsTable G (record { count = n; start = t .start; end = t .end; length = t .length; parent = t .parent; last = t .last; class = class; first = t .first; rank = rank })
+  filling-table {t} f l few ranked =
+      let d = filling-done f l in
+      let k = f .columns in
+      record {
+        counted = d .1;
+        few = omega (arith, d .1);
+        columns = record { start = k .start; end = k .end; length = k .length; parent = k .parent; last = k .last };
+        first = subst (λ (x : ℕ). Filled 257 (firstOf G) (x + 1) (t .first)) (d .0 ∙ sym (d .1)) (f .first);
+        rank = ranked;
+      }

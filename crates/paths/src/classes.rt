@@ -128,30 +128,38 @@ fn join_equation<'a>(
     ensures { λ r. ⌜ r .of ≡ joinNumbers (equationPairs p nodes left right) (c .of) ⌝ }
 {
     let count = p.count;
+    let first = p.first;
+    let rank = p.rank;
     let mut out = c;
     let mut u = index(ends[wide(left.start)]);
     while u < count {
-        let a = walk(&p.first, &p.rank, u, &left.edges, left.length as usize);
-        let b = walk(&p.first, &p.rank, u, &right.edges, right.length as usize);
-        out = join_followers(&p.first, out, a, b, nodes);
+        let a = walk(&first, &rank, u, &left.edges, left.length as usize);
+        let b = walk(&first, &rank, u, &right.edges, right.length as usize);
+        out = join_followers(&first, out, a, b, nodes);
         u = index(next[u]);
     }
     out
 }
 
-// The class number of each path of a table.
+// The class number of each path of a table. Where there are no equations, the table is not copied.
 pub fn class_numbers(t: Schema, p: Paths) -> Classes
     requires { ⌜ Sound t × IsTable (graphOf (t .graph)) p ⌝ }
     ensures { λ r. ⌜ Filled 256 (classNumber (schemaOf t)) (p .count) (r .of) ⌝ }
 {
     let n = t.equations;
+    if n == 0 {
+        return own_classes();
+    }
     let nodes = t.graph.nodes;
-    let ends = chain(&p.end, p.count);
+    let lefts = t.left;
+    let rights = t.right;
+    let end = p.end;
+    let ends = chain(&end, p.count);
     let mut c = own_classes();
     let mut q = 0;
     while q < n {
-        let left = t.left[q];
-        let right = t.right[q];
+        let left = lefts[q];
+        let right = rights[q];
         c = join_equation(p, &ends.next, &ends.first, c, left, right, nodes);
         q += 1;
     }

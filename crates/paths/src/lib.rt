@@ -32,10 +32,7 @@ pub fn path_table(t: Schema) -> Paths
     requires { ⌜ Sound t ⌝ }
     ensures { λ r. ⌜ IsPaths (schemaOf t) r ⌝ }
 {
-    let mut p = table::fill(t.graph);
-    let class = classes::class_numbers(t, p).of;
-    p.class = class;
-    p
+    table::fill(t)
 }
 
 // The path question: whether two paths of a judged schema are equal.

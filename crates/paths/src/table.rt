@@ -2,17 +2,16 @@
 use crate::Paths;
 use crate::chains::chain;
 use crate::chains::next_place;
+use crate::classes::class_numbers;
 use schema::Graph;
 use schema::Schema;
 use schema::numbers::wide;
-ghost use mathlib.Core.Path.{_≡_};
-ghost use mathlib.Core.Bool.{false};
 ghost use Prim.Native.Nat.{_≤_};
-ghost use Rattle.meaning.specs.Schema.{hasLoop};
-ghost use Rattle.agreement.specs.Paths.{pathCount};
-ghost use Rattle.schema.specs.Decoded.{graphOf};
+ghost use Rattle.schema.specs.Decoded.{graphOf, schemaOf};
 ghost use Rattle.schema.specs.Counted.{Fit};
-ghost use Rattle.paths.specs.Table.{Ranked, Trivial, IsTable};
+ghost use Rattle.schema.specs.Judged.{Sound};
+ghost use Rattle.paths.specs.Table.{Ranked, Trivial};
+ghost use Rattle.paths.specs.Classes.{IsPaths};
 
 // For each edge its place among those that leave its source.
 fn rank_edges(g: Graph) -> [u8; Schema::EDGES]
@@ -60,11 +59,12 @@ fn trivial_paths(nodes: usize) -> Paths
     }
 }
 
-// The whole table but for the classes: path h is followed by the edges from e on, and the next row is row n.
-pub fn fill(g: Graph) -> Paths
-    requires { ⌜ Fit g × (hasLoop (graphOf g) ≡ false) × (pathCount (graphOf g) ≤ 256) ⌝ }
-    ensures { λ r. ⌜ IsTable (graphOf g) r ⌝ }
+// The whole table, with the classes: path h is followed by the edges from e on, and the next row is row n.
+pub fn fill(schema: Schema) -> Paths
+    requires { ⌜ Sound schema ⌝ }
+    ensures { λ r. ⌜ IsPaths (schemaOf schema) r ⌝ }
 {
+    let g = schema.graph;
     let edges = g.edges;
     let chains = chain(&g.source, edges);
     let mut t = trivial_paths(g.nodes);
@@ -94,5 +94,7 @@ pub fn fill(g: Graph) -> Paths
     let rank = rank_edges(g);
     t.count = n;
     t.rank = rank;
+    let class = class_numbers(schema, t).of;
+    t.class = class;
     t
 }

@@ -12,37 +12,46 @@ use Rattle.paths.proofs.classes.class_numbers.Statement.{statement}
 use Rattle.paths.proofs.classes.class_numbers.Tie as tie
 
 abbrev Inv-loop : tie.InvT-loop
-Inv-loop t p n nodes ends c₀ q₀ c q = Turns (λ i. equationPairs p (t .graph .nodes) (getD (t .left) i noPath) (getD (t .right) i noPath)) (t .equations) (c₀ .of) q (c .of)
+Inv-loop p n nodes lefts rights ends c₀ q₀ c q = Turns (λ i. equationPairs p nodes (getD lefts i noPath) (getD rights i noPath)) n (c₀ .of) q (c .of)
 
 abbrev μ-loop : tie.MeasureT-loop
-μ-loop t p n nodes ends c₀ q₀ c q = t .equations - q
-
-chain-requires : tie.Need-chain-requires Inv-loop μ-loop
-chain-requires c κs = let a = c .before .before .before in ends-small (a .args .t1) (a .args .t2) (a .pre .0) (a .pre .1)
+μ-loop p n nodes lefts rights ends c₀ q₀ c q = n - q
 
 own-classes-requires : tie.Need-own-classes-requires Inv-loop μ-loop
 own-classes-requires c κs = search needs
+
+returns : tie.Need-returns Inv-loop μ-loop
+returns c = let a = c .before .before in class-column (a .args .t) (a .args .p) (a .pre .0) (a .pre .1) (c .own-classes .ensures ∙ rw (c .before .if1 .taken))
+
+slice-aggregate-chain : tie.Need-slice-aggregate-chain Inv-loop μ-loop
+slice-aggregate-chain c = search needs
+
+chain-requires : tie.Need-chain-requires Inv-loop μ-loop
+chain-requires c κs = let a = c .before .before .before .before .before in ends-small (a .args .t) (a .args .p) (a .pre .0) (a .pre .1)
+
+own-classes-requires-2 : tie.Need-own-classes-requires-2 Inv-loop μ-loop
+own-classes-requires-2 c κs = search needs
 
 loop-holds : tie.Need-loop-holds Inv-loop μ-loop
 loop-holds c = turns-start _ _ _
 
 mul-left : tie.Need-mul-left Inv-loop μ-loop
-mul-left c = let k = c .before .before .before .before .before .before .before .pre .0 .limits .equations in omega arith
+mul-left c = let k = c .before .before .before .before .before .before .before .before .before .pre .0 .limits .equations in omega arith
 
-element-copy-out-left : tie.Need-element-copy-out-left Inv-loop μ-loop
-element-copy-out-left c = let k = c .before .before .before .before .before .before .before .pre .0 .limits .equations in omega arith
+array-copy-out-left : tie.Need-array-copy-out-left Inv-loop μ-loop
+array-copy-out-left c = let k = c .before .before .before .before .before .before .before .before .before .pre .0 .limits .equations in omega arith
 
 mul-right : tie.Need-mul-right Inv-loop μ-loop
-mul-right c = let k = c .before .before .before .before .before .before .before .before .pre .0 .limits .equations in omega arith
+mul-right c = let k = c .before .before .before .before .before .before .before .before .before .before .pre .0 .limits .equations in omega arith
 
-element-copy-out-right : tie.Need-element-copy-out-right Inv-loop μ-loop
-element-copy-out-right c = let k = c .before .before .before .before .before .before .before .before .pre .0 .limits .equations in omega arith
+array-copy-out-right : tie.Need-array-copy-out-right Inv-loop μ-loop
+array-copy-out-right c = let k = c .before .before .before .before .before .before .before .before .before .before .pre .0 .limits .equations in omega arith
 
 join-equation-requires : tie.Need-join-equation-requires Inv-loop μ-loop
-join-equation-requires c κs = let a = c .before .before .before .before .before .before .before .before .before .before .before .before in (joinable (a .args .t1) (a .args .t2) (a .pre .0) (a .pre .1) (c .before .before .before .before .before .before .loop .q) (c .before .before .before .before .before .loop-test .taken), c .before .before .before .before .before .before .before .before .chain .ensures)
+join-equation-requires c κs = let a = c .before .before .before .before .before .before .before .before .before .before .before .before .before .before in (joinable (a .args .t) (a .args .p) (a .pre .0) (a .pre .1) (c .before .before .before .before .before .before .loop .q) (c .before .before .before .before .before .loop-test .taken), c .before .before .before .before .before .before .before .before .chain .ensures)
 
 add-q : tie.Need-add-q Inv-loop μ-loop
-add-q c = let k = c .before .before .before .before .before .before .before .before .before .before .before .before .before .pre .0 .limits .equations in omega (arith, c .before .before .before .before .before .before .loop-test .taken)
+add-q c = let k = c .before .before .before .before .before .before .before .before .before .before .before .before .before .before .before .pre .0 .limits .equations in omega (arith, c .before .before .before .before .before .before .loop-test .taken)
 
 loop-less : tie.Need-loop-less Inv-loop μ-loop
 loop-less c = let k = c .before .before .before .before .before .before .loop-test .taken in omega arith
@@ -50,8 +59,8 @@ loop-less c = let k = c .before .before .before .before .before .before .loop-te
 loop-again : tie.Need-loop-again Inv-loop μ-loop
 loop-again c = turns-more (c .before .before .before .before .before .before .before .loop .inv) (c .before .before .before .before .before .before .loop-test .taken) (c .join-equation .ensures)
 
-returns : tie.Need-returns Inv-loop μ-loop
-returns c = let a = c .before .before .before .before .before .before .before in class-column (a .args .t1) (a .args .t2) (a .pre .0) (a .pre .1) (turns-done (c .before .loop .inv) (c .loop-test .left) ∙ ap (joinNumbers (schemaPairs (a .args .t1) (a .args .t2))) (c .before .before .own-classes .ensures))
+returns-2 : tie.Need-returns-2 Inv-loop μ-loop
+returns-2 c = let a = c .before .before .before .before .before .before .before .before .before in class-column (a .args .t) (a .args .p) (a .pre .0) (a .pre .1) (turns-done (c .before .loop .inv) (c .loop-test .left) ∙ ap (joinNumbers (schemaPairs (a .args .t) (a .args .p))) (c .before .before .own-classes2 .ensures))
 
 pub class-numbers-spec : {M : Type 1} → statement M
 class-numbers-spec =
@@ -59,15 +68,18 @@ class-numbers-spec =
     (tie.spec
     Inv-loop
     μ-loop
-    chain-requires
     own-classes-requires
+    returns
+    slice-aggregate-chain
+    chain-requires
+    own-classes-requires-2
     loop-holds
     mul-left
-    element-copy-out-left
+    array-copy-out-left
     mul-right
-    element-copy-out-right
+    array-copy-out-right
     join-equation-requires
     add-q
     loop-less
     loop-again
-    returns)
+    returns-2)
