@@ -6,6 +6,7 @@ use mathlib.Core.List.{List}
 use native.Mathlib.Omega.{arith}
 use lib.ListN.{length, getD}
 use lib.Dec.{eqb}
+use Rattle.theory.specs.Numbering.{tabulate}
 use Rattle.meaning.specs.Lists.{all}
 use Rattle.meaning.specs.Schema.{Path, Equation, isPath}
 use Rattle.meaning.specs.PathEquality.{classOf, equal}
@@ -31,7 +32,7 @@ use Rattle.mapping.proofs.Imaging.{image-below}
 use Rattle.mapping.proofs.ImageTable.{images}
 
 module _ (s : Schema) where
-  abbrev pub equation : ℕ → Equation
+  abbrev equation : ℕ → Equation
   equation q = equationOf (getD (s .left) q noPath) (getD (s .right) q noPath)
 
   pub sides : Sound s → (q : ℕ) → q < s .equations → SoundPath (s .graph) (getD (s .left) q noPath) × SoundPath (s .graph) (getD (s .right) q noPath)
@@ -52,6 +53,19 @@ pub record Side (s : Schema) (source-paths : Paths) (p : declared.Path) : Type 0
 
 pub side : {s : Schema} {source-paths : Paths} {p : declared.Path} → Sound s → IsTable (graphOf (s .graph)) source-paths → SoundPath (s .graph) p → Side s source-paths p
 side {s} {source-paths} h t w = let n = path-numbered s source-paths h t w in record { short = w .short; within = n .within; low = omega (arith, n .below, t .counted, t .few); is = n .number }
+
+-- ---- the test of an equation, by arrays
+abbrev pub sideTest : List ℕ → List ℕ → List declared.Path → List declared.Path → List ℕ → List ℕ → ℕ → Bool
+sideTest path class lefts rights first rank q =
+    eqb
+    (sideClass path class (walkFrom first rank (getD lefts q noPath .start) (pathOf (getD lefts q noPath) .edges)))
+    (sideClass path class (walkFrom first rank (getD rights q noPath .start) (pathOf (getD rights q noPath) .edges)))
+
+pub sides-test : (s : Schema) (p : Paths) → Sound s → IsTable (graphOf (s .graph)) p → (path class : List ℕ) →
+    all (λ q. eqb (sideClass path class (numberOf (graphOf (s .graph)) (q .left))) (sideClass path class (numberOf (graphOf (s .graph)) (q .right)))) (schemaOf s .equations)
+    ≡ all (sideTest path class (s .left) (s .right) (p .first) (p .rank)) (tabulate (s .equations) (λ q. q))
+sides-test s p h k path class = all-same (λ q. eqb (sideClass path class (numberOf (graphOf (s .graph)) (q .left))) (sideClass path class (numberOf (graphOf (s .graph)) (q .right)))) (sideTest path class (s .left) (s .right) (p .first) (p .rank)) (s .equations) (equation s) (λ q. q)
+    (λ q l. let u = sides s h q l in rw (side h k (u .0) .is, side h k (u .1) .is))
 
 module _ {s t : Schema} {source-paths target-paths : Paths} {f : Mapping} (h : Imageable s t source-paths target-paths f) {path : List ℕ} (filled : Filled 256 (imageNumber (schemaOf s) (schemaOf t) (mappingOf s f)) (source-paths .count) path) where
   pub image-class : (i : ℕ) → i < source-paths .count → classOf (schemaOf t) (pathImage (mappingOf s f) (pathAt (graphOf (s .graph)) i)) ≡ sideClass path (target-paths .class) i

@@ -59,13 +59,15 @@ fn edges_fit(s: Schema, t: Schema, f: Mapping) -> bool
 {
     let g = s.graph;
     let h = t.graph;
+    let node = f.node;
+    let edge = f.edge;
     let edges = g.edges;
     let mut e = 0;
     while e < edges {
         let source = wide(g.source[e]);
         let target = wide(g.target[e]);
-        let image = f.edge[e];
-        if image_fits(h, image, f.node[source], f.node[target]) {
+        let image = edge[e];
+        if image_fits(h, image, node[source], node[target]) {
             e += 1;
         } else {
             return false;
@@ -100,12 +102,16 @@ fn attributes_fit(s: Schema, t: Schema, f: Mapping) -> bool
 {
     let node = t.node;
     let kind = t.kind;
+    let homes = s.node;
+    let kinds = s.kind;
+    let images = f.node;
+    let columns = f.attribute;
     let attributes = s.attributes;
     let mut a = 0;
     while a < attributes {
-        let home = wide(s.node[a]);
-        let b = wide(f.attribute[a]);
-        if attribute_fits(&node, &kind, t.attributes, b, f.node[home], s.kind[a]) {
+        let home = wide(homes[a]);
+        let b = wide(columns[a]);
+        if attribute_fits(&node, &kind, t.attributes, b, images[home], kinds[a]) {
             a += 1;
         } else {
             return false;

@@ -36,20 +36,26 @@ pub fn path_images(
     ensures { λ r. ⌜ Filled 256 (imageNumber (schemaOf s) (schemaOf t) (mappingOf s f)) («source_paths» .count) r ⌝ }
 {
     let count = source_paths.count;
+    let parents = source_paths.parent;
+    let lasts = source_paths.last;
+    let first = target_paths.first;
+    let rank = target_paths.rank;
+    let node = f.node;
+    let edge = f.edge;
     let mut path = [0u8; Mapping::PATHS];
     let mut i = 0;
     while i < count {
         let k = i;
         i += 1;
         if k < s.graph.nodes {
-            path[k] = f.node[k];
+            path[k] = node[k];
         } else {
-            let parent = wide(source_paths.parent[k]);
-            let last = wide(source_paths.last[k]);
-            let image = f.edge[last];
+            let parent = wide(parents[k]);
+            let last = wide(lasts[k]);
+            let image = edge[last];
             path[k] = walk(
-                &target_paths.first,
-                &target_paths.rank,
+                &first,
+                &rank,
                 wide(path[parent]),
                 &image.edges,
                 image.length as usize,
@@ -74,7 +80,7 @@ fn side_class<'a>(
     class[x]
 }
 
-// Whether the sides of each equation have images of one class.
+// Whether the sides of each equation have images of one class. Where there are no equations, nothing is copied.
 pub fn sides_agree<'a>(
     s: Schema,
     source_paths: Paths,
@@ -85,12 +91,19 @@ pub fn sides_agree<'a>(
     ensures { λ r. ⌜ r ≡ all (λ q. eqb (sideClass (now (path .entry)) (now (class .entry)) (numberOf (graphOf (s .graph)) (q .left))) (sideClass (now (path .entry)) (now (class .entry)) (numberOf (graphOf (s .graph)) (q .right)))) (schemaOf s .equations) ⌝ }
 {
     let n = s.equations;
+    if n == 0 {
+        return true;
+    }
+    let lefts = s.left;
+    let rights = s.right;
+    let first = source_paths.first;
+    let rank = source_paths.rank;
     let mut q = 0;
     while q < n {
-        let left = s.left[q];
-        let right = s.right[q];
-        if side_class(&source_paths.first, &source_paths.rank, path, class, left)
-            == side_class(&source_paths.first, &source_paths.rank, path, class, right)
+        let left = lefts[q];
+        let right = rights[q];
+        if side_class(&first, &rank, path, class, left)
+            == side_class(&first, &rank, path, class, right)
         {
             q += 1;
         } else {
