@@ -69,6 +69,6 @@ module _ {s t : Schema} {f : Mapping} (B : Fitting s t f) where
       let kind = eqb (getD (t .kind) b 0) (getD (s .kind) a 0) in
       let home = eqb (getD (t .node) b 0) (getD (f .node) (getD (s .node) a 0) 0) in
       let u = and-both (nodes && edges) attributes (sym (fits-by s t f) ∙ B .fits) .1 in
-      let v = and-both (here && kind) home (upto-all (attributeTest s t f) (s .attributes) (sym (attributes-test s t f (B .source)) ∙ u) a l) in
+      let v = and-both (here && kind) home (upto-all (attributeTest t (s .node) (s .kind) (f .node) (f .attribute)) (s .attributes) (sym (attributes-test s t f (B .source)) ∙ u) a l) in
       let w = and-both here kind (v .0) in
       record { attribute-in = ltb-true _ _ (w .0); home-is = eqb-true _ _ (v .1) }
