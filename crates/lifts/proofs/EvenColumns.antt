@@ -18,10 +18,10 @@ use Rattle.paths.specs.declared.Paths.{Paths}
 use Rattle.paths.specs.Table.{Filled}
 use Rattle.mapping.specs.declared.Mapping.{Mapping}
 use Rattle.mapping.specs.Decoded.{mappingOf}
-use Rattle.mapping.specs.Judged.{Schemas, Sound, sideClass}
+use Rattle.mapping.specs.Judged.{Schemas, Sound}
 use Rattle.mapping.proofs.Viewing.{node-at, attributes-count, attribute-is}
 use Rattle.mapping.proofs.Counting.{all-filter, all-both}
-use Rattle.lifts.specs.Even.{evenColumnAt, evenColumnsAt, evenPathsAt}
+use Rattle.lifts.specs.Even.{imageClass, evenColumnAt, evenColumnsAt, evenPathsAt}
 use Rattle.lifts.proofs.Columns.{attributes-over}
 use Rattle.lifts.proofs.EvenPaths.{even-paths}
 
@@ -45,7 +45,7 @@ module _ (s t : Schema) (f : Mapping) where
       ∙ all-upto-same (λ b. cond (eqb (attributeAt T b .node) (nodeImage F c)) (one c b) true) (evenColumnAt (s .node) (f .attribute) (s .attributes) (t .node) c (getD (f .node) c 0)) (t .attributes)
       (λ b k. rw (attribute-is t b k, node-at s f c l, attributes-over s f c b)))
 
-  pub even-by : {source-paths target-paths : Paths} {over : List ℕ} → Schemas s t source-paths target-paths → Sound s t source-paths f → Filled 256 (sideClass (f .path) (target-paths .class)) 256 over →
+  pub even-by : {source-paths target-paths : Paths} {over : List ℕ} → Schemas s t source-paths target-paths → Sound s t f → Filled 256 (imageClass S T F) (source-paths .count) over →
       even S T F ≡ (all (evenPathsAt source-paths target-paths over (f .node)) (upto (s .graph .nodes)) && all (evenColumnsAt s t f) (upto (s .graph .nodes)))
   even-by {source-paths} {target-paths} {over} h k o =
       all-upto-same (evenAt S T F) (λ c. evenPathsAt source-paths target-paths over (f .node) c && evenColumnsAt s t f c) (s .graph .nodes)

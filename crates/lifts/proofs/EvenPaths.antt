@@ -21,18 +21,16 @@ use Rattle.agreement.proofs.Paths.{pathsFrom-each}
 use Rattle.agreement.proofs.Evenness.{oneClass-some, oneClass-same, same-oneClass}
 use Rattle.schema.specs.declared.Schema.{Schema}
 use Rattle.schema.specs.Decoded.{schemaOf}
-use Rattle.schema.specs.Judged as schemas
 use Rattle.paths.specs.declared.Paths.{Paths}
 use Rattle.paths.specs.Table.{Filled}
 use Rattle.paths.proofs.TablePaths.{formed, class-at, class-low, from-table, numbered}
 use Rattle.mapping.specs.declared.Mapping.{Mapping}
 use Rattle.mapping.specs.Decoded.{mappingOf}
-use Rattle.mapping.specs.Judged.{Schemas, Imageable, Sound, sideClass}
+use Rattle.mapping.specs.Judged.{Schemas, Imageable, Sound, imageNumber}
 use Rattle.mapping.proofs.Viewing.{node-at}
-use Rattle.mapping.proofs.Imaging.{image-path, image-below}
-use Rattle.mapping.proofs.ImageTable.{images}
-use Rattle.mapping.proofs.Sides.{image-class}
-use Rattle.lifts.specs.Even.{liftClasses, uniqueAt, hasLiftAt, evenPathsAt}
+use Rattle.mapping.proofs.Imaging.{image-path}
+use Rattle.mapping.proofs.ImageTable.{images, image-class}
+use Rattle.lifts.specs.Even.{imageClass, liftClasses, uniqueAt, hasLiftAt, evenPathsAt}
 use Rattle.lifts.proofs.Lifting.{lifts-some, lifts-every}
 
 -- ---- tests
@@ -49,7 +47,7 @@ is-not true h e = no-bool (sym h)
 is-not false h e = no-bool (sym e)
 
 -- ---- both tables
-module _ {s t : Schema} {source-paths target-paths : Paths} {f : Mapping} (h : Schemas s t source-paths target-paths) (k : Sound s t source-paths f) {over : List ℕ} (o : Filled 256 (sideClass (f .path) (target-paths .class)) 256 over) where
+module _ {s t : Schema} {source-paths target-paths : Paths} {f : Mapping} (h : Schemas s t source-paths target-paths) (k : Sound s t f) {over : List ℕ} (o : Filled 256 (imageClass (schemaOf s) (schemaOf t) (mappingOf s f)) (source-paths .count) over) where
   abbrev S : meaning.Schema
   S = schemaOf s
 
@@ -62,17 +60,10 @@ module _ {s t : Schema} {source-paths target-paths : Paths} {f : Mapping} (h : S
   passed : Imageable s t source-paths target-paths f
   passed = record { schemas = h; short = k .short; fits = k .fits }
 
-  few : (i : ℕ) → i < source-paths .count → i < 256
-  few i l = let few-paths = h .source-paths .table .few in omega arith
-
-  pub over-at : (i : ℕ) → i < source-paths .count → getD over i 0 ≡ classOf T (pathImage F (pathAt (S .graph) i))
-  over-at i l = o .each i (few i l) ∙ sym (image-class passed (k .images) i l)
-
   over-low : (i : ℕ) → i < source-paths .count → getD over i 0 < 256
   over-low i l =
-      let j = image-below (formed (h .source)) (formed (h .target)) (images passed) i (let e = h .source-paths .table .counted in omega arith) in
-      let a : getD (f .path) i 0 < target-paths .count = omega (arith, k .images .each i l, h .target-paths .table .counted) in
-      omega (arith, o .each i (few i l), class-low (h .target) (h .target-paths) (getD (f .path) i 0) a)
+      let c = image-class passed i l in
+      omega (arith, o .each i l, c .is, class-low (h .target) (h .target-paths) (imageNumber S T F i) (c .low))
 
   -- a path of S lies over a path of T where their classes are one
   over-in : (c : ℕ) (q p : Path) → List·Memᴰ p (pathsFrom (S .graph) c) → classOf T (pathImage F p) ≡ classOf T q → List·Memᴰ p (lifts S T F c q)
@@ -110,7 +101,7 @@ module _ {s t : Schema} {source-paths target-paths : Paths} {f : Mapping} (h : S
           eqb-true (getD classesOver (getD over x 0) 0) (getD (source-paths .class) x 0)
           (subst (λ (b : Bool). cond b (eqb (getD classesOver (getD over x 0) 0) (getD (source-paths .class) x 0)) true ≡ true) (eq-eqb (getD (source-paths .start) x 0) c (n .starts)) (upto-all unique (source-paths .count) a x (n .below))) in
           subst (λ (w : Path). classOf S w ≡ getD classesOver (classOf T (pathImage F w)) 0) (n .is)
-          (sym (class-at (h .source) (h .source-paths) x (n .below)) ∙ sym u ∙ ap (λ (y : ℕ). getD classesOver y 0) (over-at x (n .below)))
+          (sym (class-at (h .source) (h .source-paths) x (n .below)) ∙ sym u ∙ ap (λ (y : ℕ). getD classesOver y 0) (o .each x (n .below)))
 
       some-lift : (q : Path) → List·Memᴰ q (pathsFrom (T .graph) d) → (p : Path) × List·Memᴰ p (lifts S T F c q)
       some-lift q i =
@@ -123,7 +114,7 @@ module _ {s t : Schema} {source-paths target-paths : Paths} {f : Mapping} (h : S
           let x = v .number in (
             pathAt (S .graph) x,
             over-in c q (pathAt (S .graph) x) (from-table (h .source) (h .source-paths) c x l (v .below) (v .starts))
-                (sym (over-at x (v .below)) ∙ v .lies ∙ class-at (h .target) (h .target-paths) y (n .below) ∙ ap (classOf T) (n .is)),
+                (sym (o .each x (v .below)) ∙ v .lies ∙ class-at (h .target) (h .target-paths) y (n .below) ∙ ap (classOf T) (n .is)),
           )
 
       one-lift : (q : Path) → List·Memᴰ q (pathsFrom (T .graph) d) → oneClass S (lifts S T F c q) ≡ true
@@ -148,7 +139,7 @@ module _ {s t : Schema} {source-paths target-paths : Paths} {f : Mapping} (h : S
           let y = v .number in
           let one = all-of (λ (q : Path). oneClass S (lifts S T F c q)) (pathsFrom (T .graph) d) e (image-from x b st) in
           let same = oneClass-same S (lifts S T F c q) one (pathAt (S .graph) y) (pathAt (S .graph) x)
-          (over-in c q (pathAt (S .graph) y) (from-table (h .source) (h .source-paths) c y l (v .below) (v .starts)) (sym (over-at y (v .below)) ∙ v .lies ∙ over-at x b))
+          (over-in c q (pathAt (S .graph) y) (from-table (h .source) (h .source-paths) c y l (v .below) (v .starts)) (sym (o .each y (v .below)) ∙ v .lies ∙ o .each x b))
           (over-in c q (pathAt (S .graph) x) (from-table (h .source) (h .source-paths) c x l b st) refl) in
           eq-eqb (getD classesOver (getD over x 0) 0) (getD (source-paths .class) x 0)
           (sym (v .has) ∙ class-at (h .source) (h .source-paths) y (v .below) ∙ same ∙ sym (class-at (h .source) (h .source-paths) x b)))
@@ -161,7 +152,7 @@ module _ {s t : Schema} {source-paths target-paths : Paths} {f : Mapping} (h : S
           let u = over-of c q (p .0) (p .1) in
           let n = numbered (h .source) (h .source-paths) c l (p .0) (u .0) in
           let x = n .number in
-          let lies-over : getD over x 0 ≡ getD (target-paths .class) y 0 = over-at x (n .below) ∙ ap (λ (w : Path). classOf T (pathImage F w)) (n .is) ∙ u .1 ∙ sym (class-at (h .target) (h .target-paths) y b) in
+          let lies-over : getD over x 0 ≡ getD (target-paths .class) y 0 = o .each x (n .below) ∙ ap (λ (w : Path). classOf T (pathImage F w)) (n .is) ∙ u .1 ∙ sym (class-at (h .target) (h .target-paths) y b) in
           not-is (eqb (getD classesOver (getD (target-paths .class) y 0) 0) 256) (λ r.
           every x (n .below) (n .starts) (ap (λ (w : ℕ). getD classesOver w 0) lies-over ∙ eqb-true (getD classesOver (getD (target-paths .class) y 0) 0) 256 r)))
 

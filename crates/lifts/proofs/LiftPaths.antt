@@ -27,13 +27,12 @@ use Rattle.paths.proofs.PathNumbers.{trivial-at, trivial-count, next-at}
 use Rattle.paths.proofs.TablePaths.{formed, paths-from, class-at}
 use Rattle.mapping.specs.declared.Mapping.{Mapping}
 use Rattle.mapping.specs.Decoded.{mappingOf}
-use Rattle.mapping.specs.Judged.{Schemas, Imageable, Sound, sideClass}
+use Rattle.mapping.specs.Judged.{Schemas, Imageable, Sound}
 use Rattle.mapping.proofs.Viewing.{node-at}
 use Rattle.mapping.proofs.ImageTable.{images}
 use Rattle.mapping.proofs.Counting.{filter-filter, filter-same}
-use Rattle.lifts.specs.Even.{isOver}
+use Rattle.lifts.specs.Even.{imageClass, isOver}
 use Rattle.lifts.specs.Lifts.{IsLift}
-use Rattle.lifts.proofs.EvenPaths.{over-at}
 
 module _ {A B : Type 0} where
   headOr-map : (g : A → B) (d : A) (l : List A) → headOr (g d) (map g l) ≡ g (headOr d l)
@@ -49,7 +48,7 @@ headOr-below n b d f h z = go (filter f (upto n)) (λ x m. of-upto n (filter-of 
     go (x ∷ l) k = omega (arith, k x (List·Memᴰ·head refl))
 
 -- ---- lifts
-module _ {s t : Schema} {source-paths target-paths : Paths} {f : Mapping} (h : Schemas s t source-paths target-paths) (k : Sound s t source-paths f) {over : List ℕ} (o : Filled 256 (sideClass (f .path) (target-paths .class)) 256 over) (c : ℕ) (l : c < s .graph .nodes) where
+module _ {s t : Schema} {source-paths target-paths : Paths} {f : Mapping} (h : Schemas s t source-paths target-paths) (k : Sound s t f) {over : List ℕ} (o : Filled 256 (imageClass (schemaOf s) (schemaOf t) (mappingOf s f)) (source-paths .count) over) (c : ℕ) (l : c < s .graph .nodes) where
   abbrev S : meaning.Schema
   S = schemaOf s
 
@@ -73,7 +72,7 @@ module _ {s t : Schema} {source-paths target-paths : Paths} {f : Mapping} (h : S
       ∙ filter-place (allPaths G) (path 0 []) (λ p. eqb (p .start) c && equal T (pathImage F p) q)
       ∙ ap (λ (n : ℕ). map (pathAt G) (filter (λ i. eqb (pathAt G i .start) c && equal T (pathImage F (pathAt G i)) q) (upto n))) (sym (h .source-paths .table .counted))
       ∙ ap (map (pathAt G)) (filter-same (λ i. eqb (pathAt G i .start) c && equal T (pathImage F (pathAt G i)) q) (isOver (source-paths .start) over c (classOf T q)) (upto (source-paths .count))
-      (λ i w. let b = of-upto (source-paths .count) w in rw (h .source-paths .table .columns .start .each i b, over-at h k o i b)))
+      (λ i w. let b = of-upto (source-paths .count) w in rw (h .source-paths .table .columns .start .each i b, o .each i b)))
 
   passed : Imageable s t source-paths target-paths f
   passed = record { schemas = h; short = k .short; fits = k .fits }

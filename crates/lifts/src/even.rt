@@ -2,6 +2,7 @@
 // each attribute at F(c) is the image of exactly one at c.
 use mapping::Mapping;
 use mapping::images::index;
+use mapping::images::path_images;
 use paths::Paths;
 use schema::Schema;
 ghost use mathlib.Core.Path.{_≡_};
@@ -12,8 +13,8 @@ ghost use Rattle.meaning.specs.Evenness.{even};
 ghost use Rattle.schema.specs.Decoded.{schemaOf};
 ghost use Rattle.paths.specs.Table.{Filled};
 ghost use Rattle.mapping.specs.Decoded.{mappingOf};
-ghost use Rattle.mapping.specs.Judged.{Schemas, Sound, sideClass};
-ghost use Rattle.lifts.specs.Even.{liftClasses, uniqueAt, hasLiftAt, eachHasOneLift, evenPathsAt, isOver, evenColumnAt, evenColumnsAt};
+ghost use Rattle.mapping.specs.Judged.{Schemas, Imageable, Sound};
+ghost use Rattle.lifts.specs.Even.{imageClass, liftClasses, uniqueAt, hasLiftAt, eachHasOneLift, evenPathsAt, isOver, evenColumnAt, evenColumnsAt};
 
 // What stands in place of a class where there is none: classes are below it.
 const NO_LIFT: u16 = 256;
@@ -25,16 +26,23 @@ fn as_u16(x: u8) -> u16
     x as u16
 }
 
-// The class of the image of each path.
-pub fn image_classes<'a>(
-    path: &'a [u8; Mapping::PATHS],
-    class: &'a [u8; Schema::PATHS],
+// The class of the image of each path of S.
+pub fn image_classes(
+    s: Schema,
+    t: Schema,
+    source_paths: Paths,
+    target_paths: Paths,
+    f: Mapping,
 ) -> [u8; Mapping::PATHS]
-    ensures { λ r. ⌜ Filled 256 (sideClass (now (path .entry)) (now (class .entry))) 256 r ⌝ }
+    requires { ⌜ Imageable s t «source_paths» «target_paths» f ⌝ }
+    ensures { λ r. ⌜ Filled 256 (imageClass (schemaOf s) (schemaOf t) (mappingOf s f)) («source_paths» .count) r ⌝ }
 {
+    let path = path_images(s, t, source_paths, target_paths, f);
+    let class = target_paths.class;
+    let count = source_paths.count;
     let mut over = [0u8; Mapping::PATHS];
     let mut i = 0;
-    while i < Mapping::PATHS {
+    while i < count {
         let x = index(path[i]);
         over[i] = class[x];
         i += 1;
@@ -249,10 +257,10 @@ fn attributes_even(s: Schema, t: Schema, f: Mapping) -> bool
 }
 
 pub fn is_even(s: Schema, t: Schema, source_paths: Paths, target_paths: Paths, f: Mapping) -> bool
-    requires { ⌜ Schemas s t «source_paths» «target_paths» × Sound s t «source_paths» f ⌝ }
+    requires { ⌜ Schemas s t «source_paths» «target_paths» × Sound s t f ⌝ }
     ensures { λ r. ⌜ r ≡ even (schemaOf s) (schemaOf t) (mappingOf s f) ⌝ }
 {
-    let over = image_classes(&f.path, &target_paths.class);
+    let over = image_classes(s, t, source_paths, target_paths, f);
     if paths_even(s.graph.nodes, source_paths, target_paths, &over, &f.node) {
         return attributes_even(s, t, f);
     }

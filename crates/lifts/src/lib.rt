@@ -53,10 +53,10 @@ pub fn edge_lifts(
     target_paths: Paths,
     f: Mapping,
 ) -> [u8; Mapping::LIFTS]
-    requires { ⌜ Schemas s t «source_paths» «target_paths» × Sound s t «source_paths» f ⌝ }
+    requires { ⌜ Schemas s t «source_paths» «target_paths» × Sound s t f ⌝ }
     ensures { λ r. ⌜ EdgeLifts s t «source_paths» f (16 * t .graph .edges) r ⌝ }
 {
-    let over = image_classes(&f.path, &target_paths.class);
+    let over = image_classes(s, t, source_paths, target_paths, f);
     let g = t.graph;
     let mut lifts = [0u8; Mapping::LIFTS];
     let mut i = 0;

@@ -3,7 +3,10 @@ use Prim.Native.Nat.{ℕ, _<_, _≤_}
 use mathlib.Core.Path.{_≡_, sym, _∙_}
 use mathlib.Core.List.{List}
 use native.Mathlib.Omega.{arith}
-use lib.ListN.{length, getD}
+use lib.ListN.{getD}
+use Rattle.meaning.specs.PathEquality.{classOf}
+use Rattle.meaning.specs.Views.{pathImage}
+use Rattle.agreement.specs.Paths.{pathAt}
 use Rattle.agreement.proofs.Mappings.{Fits}
 use Rattle.schema.specs.declared.Schema.{Schema}
 use Rattle.schema.specs.Decoded.{graphOf, schemaOf}
@@ -70,3 +73,15 @@ module _ {s t : Schema} {source-paths target-paths : Paths} {f : Mapping} (h : I
 
   pub numbered : Numbered (s .graph .nodes) (source-paths .count) (source-paths .parent) (source-paths .last) (target-paths .first) (target-paths .rank) (f .node) (f .edge) number
   numbered = record { trivial = trivial-image; below = λ k l b. longer-image k l b .parent-below; longer = λ k l b. longer-image k l b .is }
+
+  -- the class of a path's image stands in the table of T's paths
+  pub record ImageClass (i : ℕ) : Type 0 where
+    pub low : number i < target-paths .count
+    pub is : getD (target-paths .class) (number i) 0 ≡ classOf (schemaOf t) (pathImage (mappingOf s f) (pathAt (graphOf (s .graph)) i))
+
+  pub image-class : (i : ℕ) → i < source-paths .count → ImageClass i
+  image-class i l =
+      let e = h .schemas .source-paths .table .counted in
+      let g = h .schemas .target-paths .table .counted in
+      let low : number i < target-paths .count = omega (arith, image-below (formed (h .schemas .source)) (formed (h .schemas .target)) images i (omega arith)) in
+      record { low = low; is = h .schemas .target-paths .class .each (number i) low }

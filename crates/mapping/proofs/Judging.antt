@@ -5,12 +5,11 @@ use borrow.Author.Tests.{ne-eqb, eq-eqb}
 use Rattle.meaning.specs.Sheet.{Judged, faulty, sound}
 use Rattle.meaning.specs.Formats as formats
 use Rattle.schema.specs.declared.Schema.{Schema}
-use Rattle.paths.specs.declared.Paths.{Paths}
 use Rattle.mapping.specs.declared.Mapping.{Mapping}
 use Rattle.mapping.specs.Decoded.{emptyMapping, mappingOf, Decoded}
 use Rattle.mapping.specs.Judged.{Says}
 
-pub faulty-says : {s t : Schema} {source-paths : Paths} {f : Mapping} {k : ℕ} {J : Judged formats.Mapping} → f ≡ emptyMapping k → (k ≡ 0 → ⊥) → J ≡ faulty k → Says s t source-paths f J
+pub faulty-says : {s t : Schema} {f : Mapping} {k : ℕ} {J : Judged formats.Mapping} → f ≡ emptyMapping k → (k ≡ 0 → ⊥) → J ≡ faulty k → Says s t f J
 faulty-says {k} e some h = rw (e, h) (record { says = rw (ne-eqb k 0 some); sound = λ q. absurd (some q) })
 
 module _ {s : Schema} {f : Mapping} {J : Judged formats.Mapping} (d : Decoded s f J) where

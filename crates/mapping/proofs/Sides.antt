@@ -1,88 +1,113 @@
--- Refusal 8 by class numbers: an equation's sides are paths of S, and the classes of their images stand in the tables.
-use Prim.Native.Nat.{ℕ, _<_, _≤_}
-use mathlib.Core.Path.{_≡_, sym, ap, _∙_}
-use mathlib.Core.Bool.{Bool, true}
-use mathlib.Core.List.{List}
+-- Refusal 8 by class numbers: an equation's sides are paths of S, and the numbers of their images are found by walking the table of T's paths.
+use Prim.Native.Nat.{ℕ, zero, suc, _<_}
+use mathlib.Core.Path.{_≡_, refl, ap, _∙_}
+use mathlib.Core.Bool.{Bool, true, _&&_}
+use mathlib.Core.List.{List, [], _∷_}
 use native.Mathlib.Omega.{arith}
+use borrow.Author.Tests.{ltb-true}
 use lib.ListN.{length, getD}
-use lib.Dec.{eqb}
+use lib.Dec.{ltb, eqb}
+use Rattle.theory.specs.Mapping.{image}
 use Rattle.theory.specs.Numbering.{tabulate}
+use Rattle.theory.proofs.Numbering.{tabulate-length, tabulate-getD}
 use Rattle.meaning.specs.Lists.{all}
-use Rattle.meaning.specs.Schema.{Path, Equation, isPath}
-use Rattle.meaning.specs.PathEquality.{classOf, equal}
+use Rattle.meaning.specs.Schema as meaning
+use Rattle.meaning.specs.Schema.{Equation, source, target, joins}
+use Rattle.meaning.specs.PathEquality.{classes, classOf, equal}
 use Rattle.meaning.specs.Judge.{keepsEquations}
-use Rattle.meaning.specs.Views.{pathImage}
-use Rattle.meaning.proofs.Tabulate.{all-same}
-use Rattle.agreement.specs.Paths.{pathCount, numberOf, pathAt}
-use Rattle.agreement.proofs.Paths.{number-in, number-path, path-iff, allPaths-each}
+use Rattle.meaning.specs.Views.{edgeImage, pathImage}
+use Rattle.meaning.proofs.Tabulate.{and-both, all-same}
+use Rattle.agreement.proofs.Paths.{path-iff}
+use Rattle.schema.specs.declared.Path.{Path}
 use Rattle.schema.specs.declared.Schema.{Schema}
-use Rattle.schema.specs.declared.Path as declared
 use Rattle.schema.specs.Decoded.{graphOf, pathOf, equationOf, noPath, schemaOf}
 use Rattle.schema.specs.Judged.{Sound, SoundPath}
+use Rattle.schema.proofs.GraphEdges.{edges-count}
 use Rattle.schema.proofs.SoundSchema.{sides-at}
 use Rattle.paths.specs.declared.Paths.{Paths}
-use Rattle.paths.specs.Table.{Filled, IsTable}
-use Rattle.paths.specs.PathWalks.{walkFrom, WalkIn}
-use Rattle.paths.proofs.EquationPairs.{path-numbered}
+use Rattle.paths.specs.Classes.{IsPaths}
+use Rattle.paths.specs.PathWalks.{walkFrom}
+use Rattle.paths.proofs.EquationPairs.{table-index}
+use Rattle.paths.proofs.PathWalks.{walk-number}
 use Rattle.paths.proofs.TablePaths.{formed}
+use Rattle.mapping.specs.declared.Image.{Image}
 use Rattle.mapping.specs.declared.Mapping.{Mapping}
 use Rattle.mapping.specs.Decoded.{mappingOf}
-use Rattle.mapping.specs.Judged.{Imageable, imageNumber, sideClass}
-use Rattle.mapping.proofs.Imaging.{image-below}
-use Rattle.mapping.proofs.ImageTable.{images}
+use Rattle.mapping.specs.Judged.{Numbers, Testable, joinedImages, Walkable}
+use Rattle.mapping.proofs.Viewing.{node-at, edge-at}
+use Rattle.mapping.proofs.Imaging.{fits, image-path}
 
-module _ (s : Schema) where
+-- a table of T's paths has their numbers
+pub numbers : {t : Schema} {p : Paths} → Sound t → IsPaths (schemaOf t) p → Numbers (schemaOf t) (p .first) (p .rank) (p .class)
+numbers {t} {p} h k = record {
+  index = table-index t p h (k .table);
+  classes = record { each = λ i l. k .class .each i (let e = k .table .counted in omega arith); long = k .class .long };
+}
+
+-- edges that join up exist
+joins-in : (G : meaning.Graph) (n : ℕ) (es : List ℕ) → joins G n es ≡ true → (i : ℕ) → i < length es → getD es i 0 < length (G .edges)
+joins-in G n [] j i l = absurd (omega arith)
+joins-in G n (e ∷ es) j zero l = ltb-true e (length (G .edges)) (and-both (ltb e (length (G .edges))) (eqb (source G e) n) (and-both (ltb e (length (G .edges)) && eqb (source G e) n) (joins G (target G e) es) j .0) .0)
+joins-in G n (e ∷ es) j (suc i) l = joins-in G (target G e) es (and-both (ltb e (length (G .edges)) && eqb (source G e) n) (joins G (target G e) es) j .1) i (omega arith)
+
+module _ {s t : Schema} {first rank class : List ℕ} {f : Mapping} (h : Testable s t first rank class f) where
+  abbrev G : meaning.Graph
+  G = graphOf (s .graph)
+
+  edge-low : {e : ℕ} → e < length (G .edges) → e < s .graph .edges
+  edge-low l = omega (arith, edges-count (s .graph .edges) (s .graph .source) (s .graph .target))
+
+  -- the images of edges that join up are joined
+  images-joined : (n : ℕ) (es : List ℕ) → joins G n es ≡ true → joinedImages (f .edge) es ≡ image (edgeImage (mappingOf s f)) es
+  images-joined n [] j = refl
+  images-joined n (e ∷ es) j =
+      let a = and-both (ltb e (length (G .edges)) && eqb (source G e) n) (joins G (target G e) es) j in
+      let l = ltb-true e (length (G .edges)) (and-both (ltb e (length (G .edges))) (eqb (source G e) n) (a .0) .0) in
+      rw (edge-at s f e (edge-low l), images-joined (target G e) es (a .1))
+
+  -- how the class of a side's image is found
+  pub record Side (p : Path) : Type 0 where
+    pub walkable : Walkable first rank (f .node) (f .edge) p
+    pub low : walkFrom first rank (getD (f .node) (p .start) 0) (joinedImages (f .edge) (pathOf p .edges)) < 256
+    pub is : getD class (walkFrom first rank (getD (f .node) (p .start) 0) (joinedImages (f .edge) (pathOf p .edges))) 0 ≡ classOf (schemaOf t) (pathImage (mappingOf s f) (pathOf p))
+
+  pub side : {p : Path} → SoundPath (s .graph) p → Side p
+  side {p} w =
+      let S = schemaOf s in
+      let T = schemaOf t in
+      let F = mappingOf s f in
+      let q = pathImage F (pathOf p) in
+      let a = and-both (ltb (p .start) (s .graph .nodes)) (joins G (p .start) (pathOf p .edges)) (w .path) in
+      let l : p .start < s .graph .nodes = ltb-true (p .start) (s .graph .nodes) (a .0) in
+      let n = walk-number (T .graph) (h .target .acyclic) (h .numbers .index) q (path-iff T (h .target .well-formed) (q .start) (q .edges) .1 (image-path (formed (h .source)) (formed (h .target)) (fits s T f (h .fits)) (p .start) (pathOf p .edges) (path-iff S (h .source .well-formed) (p .start) (pathOf p .edges) .0 (w .path)))) in
+      let e : walkFrom first rank (getD (f .node) (p .start) 0) (joinedImages (f .edge) (pathOf p .edges)) ≡ walkFrom first rank (q .start) (q .edges) = rw (images-joined (p .start) (pathOf p .edges) (a .1), node-at s f (p .start) l) in
+      let edge-in : (i : ℕ) → i < p .length → getD (p .edges) i 0 < s .graph .edges = λ i b. edge-low (rw (tabulate-getD (p .length) (λ k. getD (p .edges) k 0) 0 i b) at (joins-in G (p .start) (pathOf p .edges) (a .1) i (rw (tabulate-length (p .length) (λ k. getD (p .edges) k 0)) b))) in
+      record {
+        walkable = record {
+          short = w .short;
+          start = let m = h .source .limits .nodes in omega arith;
+          edges = λ i b. let m = h .source .limits .edges in omega (arith, edge-in i b);
+          images = λ i b. h .short .each (getD (p .edges) i 0) (edge-in i b);
+          within = rw (images-joined (p .start) (pathOf p .edges) (a .1), ← node-at s f (p .start) l) (n .within);
+        };
+        low = rw e (omega (arith, n .below, h .numbers .index .few));
+        is = rw e (h .numbers .classes .each (walkFrom first rank (q .start) (q .edges)) (n .below) ∙ ap (λ (x : ℕ). getD (classes T) x 0) (n .number));
+      }
+
   abbrev equation : ℕ → Equation
   equation q = equationOf (getD (s .left) q noPath) (getD (s .right) q noPath)
 
-  pub sides : Sound s → (q : ℕ) → q < s .equations → SoundPath (s .graph) (getD (s .left) q noPath) × SoundPath (s .graph) (getD (s .right) q noPath)
-  sides h q l = let u = sides-at s h q l in (record { short = h .limits .left .each q l; path = u .left-path }, record { short = h .limits .right .each q l; path = u .right-path })
-
-  -- the number of a path
-  number-below : Sound s → (p : Path) → isPath (graphOf (s .graph)) p ≡ true → (numberOf (graphOf (s .graph)) p < pathCount (graphOf (s .graph))) × (pathAt (graphOf (s .graph)) (numberOf (graphOf (s .graph)) p) ≡ p)
-  number-below h p e =
-      let m = allPaths-each (schemaOf s) (formed h) p .1 (path-iff (schemaOf s) (h .well-formed) (p .start) (p .edges) .0 e) in
-      (number-in (graphOf (s .graph)) m, number-path (graphOf (s .graph)) m)
-
--- how a side's number is found
-pub record Side (s : Schema) (source-paths : Paths) (p : declared.Path) : Type 0 where
-  pub short : p .length ≤ 15
-  pub within : WalkIn (source-paths .first) (source-paths .rank) (p .start) (pathOf p .edges)
-  pub low : walkFrom (source-paths .first) (source-paths .rank) (p .start) (pathOf p .edges) < 256
-  pub is : walkFrom (source-paths .first) (source-paths .rank) (p .start) (pathOf p .edges) ≡ numberOf (graphOf (s .graph)) (pathOf p)
-
-pub side : {s : Schema} {source-paths : Paths} {p : declared.Path} → Sound s → IsTable (graphOf (s .graph)) source-paths → SoundPath (s .graph) p → Side s source-paths p
-side {s} {source-paths} h t w = let n = path-numbered s source-paths h t w in record { short = w .short; within = n .within; low = omega (arith, n .below, t .counted, t .few); is = n .number }
+  pub sides : (q : ℕ) → q < s .equations → Side (getD (s .left) q noPath) × Side (getD (s .right) q noPath)
+  sides q l = let u = sides-at s (h .source) q l in (side (record { short = h .source .limits .left .each q l; path = u .left-path }), side (record { short = h .source .limits .right .each q l; path = u .right-path }))
 
 -- ---- the test of an equation, by arrays
-abbrev pub sideTest : List ℕ → List ℕ → List declared.Path → List declared.Path → List ℕ → List ℕ → ℕ → Bool
-sideTest path class lefts rights first rank q =
-    eqb
-    (sideClass path class (walkFrom first rank (getD lefts q noPath .start) (pathOf (getD lefts q noPath) .edges)))
-    (sideClass path class (walkFrom first rank (getD rights q noPath .start) (pathOf (getD rights q noPath) .edges)))
+abbrev pub sideClass : List ℕ → List ℕ → List ℕ → List ℕ → List Image → Path → ℕ
+sideClass first rank class node edge p = getD class (walkFrom first rank (getD node (p .start) 0) (joinedImages edge (pathOf p .edges))) 0
 
-pub sides-test : (s : Schema) (p : Paths) → Sound s → IsTable (graphOf (s .graph)) p → (path class : List ℕ) →
-    all (λ q. eqb (sideClass path class (numberOf (graphOf (s .graph)) (q .left))) (sideClass path class (numberOf (graphOf (s .graph)) (q .right)))) (schemaOf s .equations)
-    ≡ all (sideTest path class (s .left) (s .right) (p .first) (p .rank)) (tabulate (s .equations) (λ q. q))
-sides-test s p h k path class = all-same (λ q. eqb (sideClass path class (numberOf (graphOf (s .graph)) (q .left))) (sideClass path class (numberOf (graphOf (s .graph)) (q .right)))) (sideTest path class (s .left) (s .right) (p .first) (p .rank)) (s .equations) (equation s) (λ q. q)
-    (λ q l. let u = sides s h q l in rw (side h k (u .0) .is, side h k (u .1) .is))
+abbrev pub sideTest : List ℕ → List ℕ → List ℕ → List ℕ → List Image → List Path → List Path → ℕ → Bool
+sideTest first rank class node edge lefts rights q = eqb (sideClass first rank class node edge (getD lefts q noPath)) (sideClass first rank class node edge (getD rights q noPath))
 
-module _ {s t : Schema} {source-paths target-paths : Paths} {f : Mapping} (h : Imageable s t source-paths target-paths f) {path : List ℕ} (filled : Filled 256 (imageNumber (schemaOf s) (schemaOf t) (mappingOf s f)) (source-paths .count) path) where
-  pub image-class : (i : ℕ) → i < source-paths .count → classOf (schemaOf t) (pathImage (mappingOf s f) (pathAt (graphOf (s .graph)) i)) ≡ sideClass path (target-paths .class) i
-  image-class i l =
-      let a = h .schemas .source-paths .table .counted in
-      let b = h .schemas .target-paths .table .counted in
-      let k = image-below (formed (h .schemas .source)) (formed (h .schemas .target)) (images h) i (omega arith) in
-      sym (h .schemas .target-paths .class .each (imageNumber (schemaOf s) (schemaOf t) (mappingOf s f) i) (omega arith)) ∙ ap (λ (x : ℕ). getD (target-paths .class) x 0) (sym (filled .each i l))
-
-  side-class : (p : Path) → isPath (graphOf (s .graph)) p ≡ true → classOf (schemaOf t) (pathImage (mappingOf s f) p) ≡ sideClass path (target-paths .class) (numberOf (graphOf (s .graph)) p)
-  side-class p e =
-      let n = number-below s (h .schemas .source) p e in
-      ap (λ (x : Path). classOf (schemaOf t) (pathImage (mappingOf s f) x)) (sym (n .1)) ∙ image-class (numberOf (graphOf (s .graph)) p) (let a = h .schemas .source-paths .table .counted in let b = n .0 in omega arith)
-
-  abbrev agrees : Equation → Bool
-  agrees x = eqb (sideClass path (target-paths .class) (numberOf (graphOf (s .graph)) (x .left))) (sideClass path (target-paths .class) (numberOf (graphOf (s .graph)) (x .right)))
-
-  pub keeps-by : keepsEquations (schemaOf s) (schemaOf t) (mappingOf s f) ≡ all agrees (schemaOf s .equations)
-  keeps-by = all-same (λ q. equal (schemaOf t) (pathImage (mappingOf s f) (q .left)) (pathImage (mappingOf s f) (q .right))) agrees (s .equations) (equation s) (equation s)
-      (λ q l. let u = sides s (h .schemas .source) q l in rw (side-class (equation s q .left) (u .0 .path), side-class (equation s q .right) (u .1 .path)))
+pub keeps-by : {s t : Schema} {first rank class : List ℕ} {f : Mapping} → Testable s t first rank class f →
+    keepsEquations (schemaOf s) (schemaOf t) (mappingOf s f) ≡ all (sideTest first rank class (f .node) (f .edge) (s .left) (s .right)) (tabulate (s .equations) (λ q. q))
+keeps-by {s} {t} {first} {rank} {class} {f} h = all-same (λ q. equal (schemaOf t) (pathImage (mappingOf s f) (q .left)) (pathImage (mappingOf s f) (q .right))) (sideTest first rank class (f .node) (f .edge) (s .left) (s .right)) (s .equations) (equation h) (λ q. q)
+    (λ q l. let u = sides h q l in rw (u .0 .is, u .1 .is))

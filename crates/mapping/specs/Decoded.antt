@@ -39,7 +39,7 @@ abbrev pub emptyImage : Image
 emptyImage = record { length = 0; edges = replicate 16 0 }
 
 abbrev pub emptyMapping : ℕ → Mapping
-emptyMapping number = record { fault = number; node = replicate 16 0; edge = replicate 32 emptyImage; attribute = replicate 16 0; path = replicate 256 0 }
+emptyMapping number = record { fault = number; node = replicate 16 0; edge = replicate 32 emptyImage; attribute = replicate 16 0 }
 
 -- ---- what the decoders promise
 

@@ -118,7 +118,6 @@ pub fn decode_mapping(s: Schema, sheet: &[u8]) -> Mapping
             node: node,
             edge: edge,
             attribute: attribute,
-            path: [0u8; Mapping::PATHS],
         };
     }
     Mapping::faulty(faults::TAIL)

@@ -1,21 +1,21 @@
-// The image of every path of S, as its number among the paths of T; and refusal 8: whether the sides of each equation have equal images.
+// Images of paths of S as their numbers among the paths of T; and refusal 8: whether the sides of each equation have equal images.
+use crate::Image;
 use crate::Mapping;
 use paths::Paths;
+use paths::classes::same_class;
 use paths::walk::walk;
 use schema::Path;
 use schema::Schema;
 use schema::numbers::wide;
 ghost use mathlib.Core.Path.{_≡_};
-ghost use Prim.Native.Nat.{_<_, _≤_};
-ghost use lib.Dec.{eqb};
-ghost use Rattle.meaning.specs.Lists.{all};
-ghost use Rattle.agreement.specs.Paths.{numberOf};
-ghost use Rattle.schema.specs.Decoded.{graphOf, pathOf, schemaOf};
-ghost use Rattle.schema.specs.Judged.{Sound};
-ghost use Rattle.paths.specs.Table.{Filled, IsTable};
-ghost use Rattle.paths.specs.PathWalks.{walkFrom, WalkIn};
+ghost use Prim.Native.Nat.{_<_};
+ghost use lib.ListN.{getD};
+ghost use Rattle.meaning.specs.Judge.{keepsEquations};
+ghost use Rattle.schema.specs.Decoded.{pathOf, schemaOf};
+ghost use Rattle.paths.specs.Table.{Filled};
+ghost use Rattle.paths.specs.PathWalks.{walkFrom};
 ghost use Rattle.mapping.specs.Decoded.{mappingOf};
-ghost use Rattle.mapping.specs.Judged.{Imageable, imageNumber, sideClass};
+ghost use Rattle.mapping.specs.Judged.{Imageable, imageNumber, Testable, joinedImages, Walkable};
 
 // A byte as an index into a table of paths.
 pub fn index(x: u8) -> usize
@@ -65,30 +65,40 @@ pub fn path_images(
     path
 }
 
-// The class of the image of a path, by the image of each path and the class of each image.
-fn side_class<'a>(
+// The number of the image of a path: from the trivial path at the image of its start, the images of its edges are walked.
+fn image_number<'a>(
     first: &'a [u16; Schema::PATHS + 1],
     rank: &'a [u8; Schema::EDGES],
-    path: &'a [u8; Mapping::PATHS],
-    class: &'a [u8; Schema::PATHS],
+    node: &'a [u8; Mapping::NODES],
+    edge: [Image; Mapping::EDGES],
     p: Path,
-) -> u8
-    requires { ⌜ (p .length ≤ 15) × WalkIn (now first) (now rank) (p .start) (pathOf p .edges) × (walkFrom (now first) (now rank) (p .start) (pathOf p .edges) < 256) ⌝ }
-    ensures { λ r. ⌜ r ≡ sideClass (now (path .entry)) (now (class .entry)) (walkFrom (now (first .entry)) (now (rank .entry)) (p .start) (pathOf p .edges)) ⌝ }
+) -> usize
+    requires { ⌜ Walkable (now first) (now rank) (now node) edge p ⌝ }
+    ensures { λ r. ⌜ r ≡ walkFrom (now (first .entry)) (now (rank .entry)) (getD (now (node .entry)) (p .start) 0) (joinedImages edge (pathOf p .edges)) ⌝ }
 {
-    let x = index(path[walk(first, rank, wide(p.start), &p.edges, p.length as usize)]);
-    class[x]
+    let n = p.length as usize;
+    let mut x = wide(node[wide(p.start)]);
+    let mut i = 0;
+    while i < n {
+        let e = wide(p.edges[i]);
+        let image = edge[e];
+        x = walk(first, rank, x, &image.edges, image.length as usize);
+        i += 1;
+    }
+    x
 }
 
-// Whether the sides of each equation have images of one class. Where there are no equations, nothing is copied.
+// Refusal 8: whether the sides of each equation have images of one class. Where there are no equations, nothing is copied.
 pub fn sides_agree<'a>(
     s: Schema,
-    source_paths: Paths,
-    path: &'a [u8; Mapping::PATHS],
+    t: Schema,
+    first: &'a [u16; Schema::PATHS + 1],
+    rank: &'a [u8; Schema::EDGES],
     class: &'a [u8; Schema::PATHS],
+    f: Mapping,
 ) -> bool
-    requires { ⌜ Sound s × IsTable (graphOf (s .graph)) «source_paths» ⌝ }
-    ensures { λ r. ⌜ r ≡ all (λ q. eqb (sideClass (now (path .entry)) (now (class .entry)) (numberOf (graphOf (s .graph)) (q .left))) (sideClass (now (path .entry)) (now (class .entry)) (numberOf (graphOf (s .graph)) (q .right)))) (schemaOf s .equations) ⌝ }
+    requires { ⌜ Testable s t (now first) (now rank) (now class) f ⌝ }
+    ensures { λ r. ⌜ r ≡ keepsEquations (schemaOf s) (schemaOf t) (mappingOf s f) ⌝ }
 {
     let n = s.equations;
     if n == 0 {
@@ -96,15 +106,13 @@ pub fn sides_agree<'a>(
     }
     let lefts = s.left;
     let rights = s.right;
-    let first = source_paths.first;
-    let rank = source_paths.rank;
+    let node = f.node;
+    let edge = f.edge;
     let mut q = 0;
     while q < n {
-        let left = lefts[q];
-        let right = rights[q];
-        if side_class(&first, &rank, path, class, left)
-            == side_class(&first, &rank, path, class, right)
-        {
+        let left = image_number(first, rank, &node, edge, lefts[q]);
+        let right = image_number(first, rank, &node, edge, rights[q]);
+        if same_class(class, left, right) {
             q += 1;
         } else {
             return false;

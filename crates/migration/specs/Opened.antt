@@ -21,7 +21,7 @@ openedOf o = outcomeOf (o .refusal) (migrationOf o)
 -- what a migration relies on
 pub record Ready (o : Opened) : Type 0 where
   pub schemas : Schemas (o .source) (o .target) (o .«source_paths») (o .«target_paths»)
-  pub mapping : Sound (o .source) (o .target) (o .«source_paths») (o .mapping)
+  pub mapping : Sound (o .source) (o .target) (o .mapping)
 
 pub record Opens (o : Opened) (M : Outcome Migration) : Type 0 where
   pub says : openedOf o ≡ M

@@ -4,11 +4,12 @@ use crate::Refusal;
 use crate::Verdict;
 use crate::matchings::Side;
 use crate::matchings::match_side;
-use crate::open::open;
 use instance::Instance;
 use instance::has_few_columns;
 use instance::judge_instance;
+use mapping::judge_mapping;
 use paths::equal;
+use paths::path_table;
 use schema::Schema;
 use schema::judge_path;
 use schema::judge_schema;
@@ -45,9 +46,22 @@ pub fn check_schema(s: &[u8]) -> Verdict
 pub fn check_mapping(s: &[u8], t: &[u8], f: &[u8]) -> Verdict
     ensures { λ r. ⌜ verdictOf r ≡ checkMapping (now (s .entry)) (now (t .entry)) (now (f .entry)) ⌝ }
 {
-    let opened = open(s, t, f);
-    let refusal = opened.refusal;
-    verdict(refusal)
+    let source = judge_schema(s);
+    let target = judge_schema(t);
+    let target_paths = path_table(target);
+    let mapping = judge_mapping(
+        source,
+        target,
+        &target_paths.first,
+        &target_paths.rank,
+        &target_paths.class,
+        f,
+    );
+    let first = Refusal {
+        number: source.fault,
+        place: 1,
+    };
+    verdict(first.or(target.fault, 2).or(mapping.fault, 3))
 }
 
 // The refusal of an instance sheet at place 2, for a schema with few columns.

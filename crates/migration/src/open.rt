@@ -34,7 +34,14 @@ pub(crate) fn open(s: &[u8], t: &[u8], f: &[u8]) -> Opened
     let target = judge_schema(t);
     let source_paths = path_table(source);
     let target_paths = path_table(target);
-    let mapping = judge_mapping(source, target, source_paths, target_paths, f);
+    let mapping = judge_mapping(
+        source,
+        target,
+        &target_paths.first,
+        &target_paths.rank,
+        &target_paths.class,
+        f,
+    );
     let first = Refusal {
         number: source.fault,
         place: 1,

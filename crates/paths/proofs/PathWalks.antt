@@ -1,6 +1,6 @@
 -- A walk of the table leads to the path with the walked edges behind it.
 use Prim.Native.Nat.{ℕ, _+_, _<_}
-use mathlib.Core.Path.{_≡_, sym, ap, _∙_, subst}
+use mathlib.Core.Path.{_≡_, refl, sym, ap, _∙_, subst}
 use mathlib.Core.Bool.{true, false, _&&_}
 use mathlib.Core.List.{List, [], _∷_, _++_, append-assoc, append-nil}
 use native.Mathlib.Omega.{arith}
@@ -18,6 +18,17 @@ use Rattle.paths.specs.PathWalks.{walkFrom, WalkIn}
 use Rattle.paths.proofs.PathNumbers.{trivial-at, trivial-count, next-at}
 use Rattle.paths.proofs.Filling.{next-row}
 
+-- ---- edges walked in two parts
+module _ (first rank : List ℕ) where
+  pub walk-append : (x : ℕ) (a b : List ℕ) → walkFrom first rank x (a ++ b) ≡ walkFrom first rank (walkFrom first rank x a) b
+  walk-append x [] b = refl
+  walk-append x (e ∷ a) b = walk-append (getD first x 0 + getD rank e 0) a b
+
+  pub within-append : (x : ℕ) (a b : List ℕ) → WalkIn first rank x (a ++ b) → WalkIn first rank x a × WalkIn first rank (walkFrom first rank x a) b
+  within-append x [] b w = (tt, w)
+  within-append x (e ∷ a) b w = let v = within-append (getD first x 0 + getD rank e 0) a b (w .2) in ((w .0, w .1, v .0), v .1)
+
+-- ---- where a walk leads
 module _ (G : Graph) (acyclic : hasLoop G ≡ false) {first rank : List ℕ} (index : Index G first rank) where
   -- path r is path x with edges behind it
   pub record Reached (x : ℕ) (es : List ℕ) (r : ℕ) : Type 0 where

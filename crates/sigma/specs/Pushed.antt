@@ -39,7 +39,7 @@ pub record AllOver (s t : Schema) (f : Mapping) : Type 0 where
 -- an even mapping from S to T with the tables of their paths, and a run over S whose links exist
 pub record Pushable (s t : Schema) (source-paths target-paths : Paths) (f : Mapping) (run : Instance) (links values : List ℕ) : Type 0 where
   pub schemas : Schemas s t source-paths target-paths
-  pub mapping : Sound s t source-paths f
+  pub mapping : Sound s t f
   pub is-even : even (schemaOf s) (schemaOf t) (mappingOf s f) ≡ true
   pub limits : Limits s run
   pub links-in : linksInRange (schemaOf s) (tablesOf s run links values) ≡ true

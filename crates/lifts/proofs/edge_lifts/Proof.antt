@@ -12,39 +12,39 @@ use Rattle.lifts.proofs.edge_lifts.Statement.{statement}
 use Rattle.lifts.proofs.edge_lifts.Tie as tie
 
 abbrev Inv-loop : tie.InvT-loop
-Inv-loop s t source-paths target-paths f over g lifts₀ i₀ lifts i = (i ≤ 16 * t .graph .edges) × EdgeLifts s t source-paths f i lifts × (length lifts ≡ 512)
+Inv-loop s t target-paths source-paths f over g lifts₀ i₀ lifts i = (i ≤ 16 * t .graph .edges) × EdgeLifts s t source-paths f i lifts × (length lifts ≡ 512)
 
 abbrev μ-loop : tie.MeasureT-loop
-μ-loop s t source-paths target-paths f over g lifts₀ i₀ lifts i = 16 * t .graph .edges - i
+μ-loop s t target-paths source-paths f over g lifts₀ i₀ lifts i = 16 * t .graph .edges - i
 
-edge-in : (c : tie.Then3 Inv-loop μ-loop) → c .before .before .before .before .before .before .before .loop .i / 16 < c .before .before .before .before .before .before .before .before .before .before .before .before .before .before .args .t .graph .edges
+edge-in : (c : tie.Then3 Inv-loop μ-loop) → c .before .before .before .before .before .before .before .loop .i / 16 < c .before .before .before .before .before .before .before .before .before .before .args .t .graph .edges
 edge-in c = let l = c .before .before .before .before .before .if1 .taken in omega arith
 
-edge : (c : tie.Then3 Inv-loop μ-loop) → EdgePath (c .before .before .before .before .before .before .before .before .before .before .before .before .before .before .pre .0) (c .before .before .before .before .before .before .before .before .before .before .before .before .before .before .pre .1) (c .before .before .before .before .before .before .before .before .before .image-classes .ensures) (c .before .before .before .before .before .before .before .loop .i % 16) (c .before .before .before .if2 .taken) (c .before .before .before .before .before .before .before .loop .i / 16) (edge-in c) (c .if3 .taken)
-edge c = edge-path (c .before .before .before .before .before .before .before .before .before .before .before .before .before .before .pre .0) (c .before .before .before .before .before .before .before .before .before .before .before .before .before .before .pre .1) (c .before .before .before .before .before .before .before .before .before .image-classes .ensures) (c .before .before .before .before .before .before .before .loop .i % 16) (c .before .before .before .if2 .taken) (c .before .before .before .before .before .before .before .loop .i / 16) (edge-in c) (c .if3 .taken)
+edge : (c : tie.Then3 Inv-loop μ-loop) → EdgePath (c .before .before .before .before .before .before .before .before .before .before .pre .0) (c .before .before .before .before .before .before .before .before .before .before .pre .1) (c .before .before .before .before .before .before .before .before .before .image-classes .ensures) (c .before .before .before .before .before .before .before .loop .i % 16) (c .before .before .before .if2 .taken) (c .before .before .before .before .before .before .before .loop .i / 16) (edge-in c) (c .if3 .taken)
+edge c = edge-path (c .before .before .before .before .before .before .before .before .before .before .pre .0) (c .before .before .before .before .before .before .before .before .before .before .pre .1) (c .before .before .before .before .before .before .before .before .before .image-classes .ensures) (c .before .before .before .before .before .before .before .loop .i % 16) (c .before .before .before .if2 .taken) (c .before .before .before .before .before .before .before .loop .i / 16) (edge-in c) (c .if3 .taken)
 
-lifted : (c : tie.After-first-over Inv-loop μ-loop) → IsLift (c .before .before .before .before .before .before .before .before .before .before .before .before .before .before .before .before .before .before .before .before .before .args .s) (c .before .before .before .before .before .before .before .before .before .before .before .before .before .before .before .before .before .before .before .before .before .args .t) (c .before .before .before .before .before .before .before .before .before .before .before .before .before .before .before .before .before .before .before .before .before .args .t3) (c .before .before .before .before .before .before .before .before .before .before .before .before .before .before .before .before .before .before .before .before .before .args .t5) (c .before .before .before .before .before .before .before .before .before .before .before .before .before .before .loop .i % 16) (c .before .before .before .before .before .before .before .before .before .before .before .before .before .before .loop .i / 16) (c .first-over .result)
+lifted : (c : tie.After-first-over Inv-loop μ-loop) → IsLift (c .before .before .before .before .before .before .before .before .before .before .before .before .before .before .before .before .before .args .s) (c .before .before .before .before .before .before .before .before .before .before .before .before .before .before .before .before .before .args .t) (c .before .before .before .before .before .before .before .before .before .before .before .before .before .before .before .before .before .args .t3) (c .before .before .before .before .before .before .before .before .before .before .before .before .before .before .before .before .before .args .t5) (c .before .before .before .before .before .before .before .before .before .before .before .before .before .before .loop .i % 16) (c .before .before .before .before .before .before .before .before .before .before .before .before .before .before .loop .i / 16) (c .first-over .result)
 lifted c =
-    let n : c .before .before .before .before .before .before .wide .result ≡ getD (c .before .before .before .before .before .before .before .before .before .before .before .before .before .before .before .before .before .before .before .before .before .args .t5 .node) (c .before .before .before .before .before .before .before .before .before .before .before .before .before .before .loop .i % 16) 0 = c .before .before .before .before .before .before .wide .ensures in
-    rw (c .first-over .ensures, c .before .before .before .before .before .edge-class .ensures, n) (lift-number (c .before .before .before .before .before .before .before .before .before .before .before .before .before .before .before .before .before .before .before .before .before .pre .0) (c .before .before .before .before .before .before .before .before .before .before .before .before .before .before .before .before .before .before .before .before .before .pre .1) (c .before .before .before .before .before .before .before .before .before .before .before .before .before .before .before .before .image-classes .ensures) (c .before .before .before .before .before .before .before .before .before .before .before .before .before .before .loop .i % 16) (c .before .before .before .before .before .before .before .before .before .before .if2 .taken) (c .before .before .before .before .before .before .before .before .before .before .before .before .before .before .loop .i / 16) (edge-in (c .before .before .before .before .before .before .before)) (c .before .before .before .before .before .before .before .if3 .taken))
+    let n : c .before .before .before .before .before .before .wide .result ≡ getD (c .before .before .before .before .before .before .before .before .before .before .before .before .before .before .before .before .before .args .t5 .node) (c .before .before .before .before .before .before .before .before .before .before .before .before .before .before .loop .i % 16) 0 = c .before .before .before .before .before .before .wide .ensures in
+    rw (c .first-over .ensures, c .before .before .before .before .before .edge-class .ensures, n) (lift-number (c .before .before .before .before .before .before .before .before .before .before .before .before .before .before .before .before .before .pre .0) (c .before .before .before .before .before .before .before .before .before .before .before .before .before .before .before .before .before .pre .1) (c .before .before .before .before .before .before .before .before .before .before .before .before .before .before .before .before .image-classes .ensures) (c .before .before .before .before .before .before .before .before .before .before .before .before .before .before .loop .i % 16) (c .before .before .before .before .before .before .before .before .before .before .if2 .taken) (c .before .before .before .before .before .before .before .before .before .before .before .before .before .before .loop .i / 16) (edge-in (c .before .before .before .before .before .before .before)) (c .before .before .before .before .before .before .before .if3 .taken))
 
 image-classes-requires : tie.Need-image-classes-requires Inv-loop μ-loop
-image-classes-requires c κs = search needs
+image-classes-requires c κs = let p = c .pre in record { schemas = p .0; short = p .1 .short; fits = p .1 .fits }
 
 loop-holds : tie.Need-loop-holds Inv-loop μ-loop
 loop-holds c = (omega arith, record { each = below-none _ }, length-replicate {A = ℕ} 512 0)
 
 mul-if1 : tie.Need-mul-if1 Inv-loop μ-loop
-mul-if1 c = let f = c .before .before .before .before .before .before .before .before .pre .0 .target .limits .edges in omega arith
+mul-if1 c = let f = c .before .before .before .before .pre .0 .target .limits .edges in omega arith
 
 add-i : tie.Need-add-i Inv-loop μ-loop
-add-i c = let f = c .before .before .before .before .before .before .before .before .before .pre .0 .target .limits .edges in omega arith
+add-i c = let f = c .before .before .before .before .before .pre .0 .target .limits .edges in omega arith
 
 element-copy-out-d : tie.Need-element-copy-out-d Inv-loop μ-loop
 element-copy-out-d c = omega arith
 
 element-copy-out-if3 : tie.Need-element-copy-out-if3 Inv-loop μ-loop
-element-copy-out-if3 c = let f = c .before .before .before .before .before .before .before .before .before .before .before .before .pre .0 .target .limits .edges in let l = c .before .before .before .if1 .taken in omega arith
+element-copy-out-if3 c = let f = c .before .before .before .before .before .before .before .before .pre .0 .target .limits .edges in let l = c .before .before .before .if1 .taken in omega arith
 
 wide-requires : tie.Need-wide-requires Inv-loop μ-loop
 wide-requires c κs = search needs
@@ -52,7 +52,7 @@ wide-requires c κs = search needs
 edge-class-requires : tie.Need-edge-class-requires Inv-loop μ-loop
 edge-class-requires c κs =
     let f = edge (c .before) in
-    let n : c .wide .result ≡ getD (c .before .before .before .before .before .before .before .before .before .before .before .before .before .before .before .args .t5 .node) (c .before .before .before .before .before .before .before .before .loop .i % 16) 0 = c .wide .ensures in
+    let n : c .wide .result ≡ getD (c .before .before .before .before .before .before .before .before .before .before .before .args .t5 .node) (c .before .before .before .before .before .before .before .before .loop .i % 16) 0 = c .wide .ensures in
     rw n (f .node-low, f .edge-low, f .number-low)
 
 slice-aggregate-first-over : tie.Need-slice-aggregate-first-over Inv-loop μ-loop
@@ -63,15 +63,15 @@ cast-first-over c = omega arith
 
 first-over-requires : tie.Need-first-over-requires Inv-loop μ-loop
 first-over-requires c κs =
-    let t = c .before .before .before .before .before .before .before .before .before .before .before .before .before .before .before .before .before .before .before .before .pre .0 .source-paths .table in
+    let t = c .before .before .before .before .before .before .before .before .before .before .before .before .before .before .before .before .pre .0 .source-paths .table in
     let a = t .few in
     (omega (arith, t .columns .start .long), omega (arith, c .before .before .before .before .before .before .before .before .before .before .before .before .before .before .before .image-classes .ensures .long))
 
 cast-lifts : tie.Need-cast-lifts Inv-loop μ-loop
-cast-lifts c = let b = lifted c .below in let f = c .before .before .before .before .before .before .before .before .before .before .before .before .before .before .before .before .before .before .before .before .before .pre .0 .source-paths .table .few in omega arith
+cast-lifts c = let b = lifted c .below in let f = c .before .before .before .before .before .before .before .before .before .before .before .before .before .before .before .before .before .pre .0 .source-paths .table .few in omega arith
 
 array-write-lifts : tie.Need-array-write-lifts Inv-loop μ-loop
-array-write-lifts c = let f = c .before .before .before .before .before .before .before .before .before .before .before .before .before .before .before .before .before .before .before .before .before .pre .0 .target .limits .edges in let l = c .before .before .before .before .before .before .before .before .before .before .before .before .if1 .taken in omega arith
+array-write-lifts c = let f = c .before .before .before .before .before .before .before .before .before .before .before .before .before .before .before .before .before .pre .0 .target .limits .edges in let l = c .before .before .before .before .before .before .before .before .before .before .before .before .if1 .taken in omega arith
 
 loop-less : tie.Need-loop-less Inv-loop μ-loop
 loop-less c = let l = c .before .before .before .before .before .before .before .before .before .before .before .before .if1 .taken in omega arith
@@ -80,10 +80,10 @@ loop-again : tie.Need-loop-again Inv-loop μ-loop
 loop-again c =
     let v = c .before .before .before .before .before .before .before .before .before .before .before .before .before .before .loop in
     let l = c .before .before .before .before .before .before .before .before .before .before .before .before .if1 .taken in
-    let f = c .before .before .before .before .before .before .before .before .before .before .before .before .before .before .before .before .before .before .before .before .before .pre .0 .target .limits .edges in
+    let f = c .before .before .before .before .before .before .before .before .before .before .before .before .before .before .before .before .before .pre .0 .target .limits .edges in
     let i : v .i < length (v .lifts) = omega (arith, v .inv .2) in (
       omega arith,
-      record { each = filled (λ k x. k % 16 < c .before .before .before .before .before .before .before .before .before .before .before .before .before .before .before .before .before .before .before .before .before .args .s .graph .nodes → getD (c .before .before .before .before .before .before .before .before .before .before .before .before .before .before .before .before .before .before .before .before .before .args .t .graph .source) (k / 16) 0 ≡ getD (c .before .before .before .before .before .before .before .before .before .before .before .before .before .before .before .before .before .before .before .before .before .args .t5 .node) (k % 16) 0 → IsLift (c .before .before .before .before .before .before .before .before .before .before .before .before .before .before .before .before .before .before .before .before .before .args .s) (c .before .before .before .before .before .before .before .before .before .before .before .before .before .before .before .before .before .before .before .before .before .args .t) (c .before .before .before .before .before .before .before .before .before .before .before .before .before .before .before .before .before .before .before .before .before .args .t3) (c .before .before .before .before .before .before .before .before .before .before .before .before .before .before .before .before .before .before .before .before .before .args .t5) (k % 16) (k / 16) x) 0 (v .lifts) (v .i) i (λ _ _. lifted c) (v .inv .1 .each) },
+      record { each = filled (λ k x. k % 16 < c .before .before .before .before .before .before .before .before .before .before .before .before .before .before .before .before .before .args .s .graph .nodes → getD (c .before .before .before .before .before .before .before .before .before .before .before .before .before .before .before .before .before .args .t .graph .source) (k / 16) 0 ≡ getD (c .before .before .before .before .before .before .before .before .before .before .before .before .before .before .before .before .before .args .t5 .node) (k % 16) 0 → IsLift (c .before .before .before .before .before .before .before .before .before .before .before .before .before .before .before .before .before .args .s) (c .before .before .before .before .before .before .before .before .before .before .before .before .before .before .before .before .before .args .t) (c .before .before .before .before .before .before .before .before .before .before .before .before .before .before .before .before .before .args .t3) (c .before .before .before .before .before .before .before .before .before .before .before .before .before .before .before .before .before .args .t5) (k % 16) (k / 16) x) 0 (v .lifts) (v .i) i (λ _ _. lifted c) (v .inv .1 .each) },
       length-set (v .lifts) (v .i) _ ∙ v .inv .2,
     )
 
@@ -109,7 +109,7 @@ loop-again-3 c =
 returns : tie.Need-returns Inv-loop μ-loop
 returns c =
     let v = c .before .before .loop in
-    let e : v .i ≡ 16 * c .before .before .before .before .before .before .before .before .before .args .t .graph .edges = let x = v .inv .0 in let y = c .if1 .left in omega arith in
+    let e : v .i ≡ 16 * c .before .before .before .before .before .args .t .graph .edges = let x = v .inv .0 in let y = c .if1 .left in omega arith in
     rw e at (v .inv .1)
 
 pub edge-lifts-spec : {M : Type 1} → statement M
