@@ -10,15 +10,15 @@ use lib.Dec.{eqb}
 use borrow.Author.Tests.{eqb-true, eqb-false}
 use Rattle.paths.specs.Chains.{NextAt, Chained, nextPlace}
 
--- the places from place i on are chained, in arrays of 256 and of 16 entries
-pub record Chaining (column : List ℕ) (n i : ℕ) (next first : List ℕ) : Type 0 where
+-- the places from place i on are chained, in arrays of l and of 16 entries
+pub record Chaining (column : List ℕ) (n i l : ℕ) (next first : List ℕ) : Type 0 where
   pub some : i ≤ n
   pub chained : Chained column n i next first
-  pub next-long : length next ≡ 256
+  pub next-long : length next ≡ l
   pub first-long : length first ≡ 16
 
-pub chaining-start : (column : List ℕ) (n : ℕ) → Chaining column n n (replicate 256 0) (replicate 16 n)
-chaining-start column n = record {
+pub chaining-start : (column next : List ℕ) {first : List ℕ} (n : ℕ) → first ≡ replicate 16 n → Chaining column n n (length next) next first
+chaining-start column next {first} n e = rw e (record {
   some = omega arith;
   chained = record {
     after = λ j a b. absurd (omega arith);
@@ -26,9 +26,9 @@ chaining-start column n = record {
   };
   next-long = refl;
   first-long = refl;
-}
+})
 
-module _ {column next first : List ℕ} {n k : ℕ} (i : ℕ) (c : Chaining column n k next first) (at : k ≡ i + 1) (few : n ≤ 256) (low : getD column i 0 < 16) where
+module _ {column next first : List ℕ} {n k l : ℕ} (i : ℕ) (c : Chaining column n k l next first) (at : k ≡ i + 1) (room : n ≤ l) (low : getD column i 0 < 16) where
   abbrev node : ℕ
   node = getD column i 0
 
@@ -40,7 +40,7 @@ module _ {column next first : List ℕ} {n k : ℕ} (i : ℕ) (c : Chaining colu
       go j a b true p q = let e : j ≡ i = eqb-true j i p in other (sym q ∙ rw e)
       go j a b false p q = let e : j ≡ i → ⊥ = eqb-false j i p in s .none j a (omega arith) q
 
-  pub chaining-more : Chaining column n i (set next i (getD first node 0)) (set first node i)
+  pub chaining-more : Chaining column n i l (set next i (getD first node 0)) (set first node i)
   chaining-more = record {
     some = let s = c .some in omega arith;
     chained = record { after = λ j a b. after j a b (eqb j i) refl; begins = λ v l. begins v l (eqb v node) refl };

@@ -9,7 +9,7 @@ use schema::numbers::wide;
 ghost use mathlib.Core.Path.{_≡_};
 ghost use mathlib.Core.List.{map};
 ghost use Prim.Native.Nat.{_+_, _<_, _≤_};
-ghost use lib.ListN.{getD};
+ghost use lib.ListN.{getD, length};
 ghost use lib.Dec.{eqb};
 ghost use Rattle.meaning.specs.Lists.{upto};
 ghost use Rattle.meaning.specs.PathEquality.{joinClasses};
@@ -117,14 +117,14 @@ fn join_followers(
 // ends has the first.
 fn join_equation<'a>(
     p: Paths,
-    next: &'a [u16; Schema::PATHS],
+    next: &'a [u16],
     ends: &'a [u16; Schema::NODES],
     c: Classes,
     left: Path,
     right: Path,
     nodes: usize,
 ) -> Classes
-    requires { ⌜ Joinable p nodes left right × Chained (p .end) (p .count) 0 (now next) (now ends) ⌝ }
+    requires { ⌜ Joinable p nodes left right × (p .count ≤ length (now next)) × Chained (p .end) (p .count) 0 (now next) (now ends) ⌝ }
     ensures { λ r. ⌜ r .of ≡ joinNumbers (equationPairs p nodes left right) (c .of) ⌝ }
 {
     let count = p.count;
@@ -154,13 +154,15 @@ pub fn class_numbers(t: Schema, p: Paths) -> Classes
     let lefts = t.left;
     let rights = t.right;
     let end = p.end;
-    let ends = chain(&end, p.count);
+    let mut next = [0u16; Schema::PATHS];
+    let mut ends = [p.count as u16; Schema::NODES];
+    chain(&end, p.count, &mut next, &mut ends);
     let mut c = own_classes();
     let mut q = 0;
     while q < n {
         let left = lefts[q];
         let right = rights[q];
-        c = join_equation(p, &ends.next, &ends.first, c, left, right, nodes);
+        c = join_equation(p, &next, &ends, c, left, right, nodes);
         q += 1;
     }
     c

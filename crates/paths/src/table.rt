@@ -66,20 +66,21 @@ pub fn fill(schema: Schema) -> Paths
 {
     let g = schema.graph;
     let edges = g.edges;
-    let chains = chain(&g.source, edges);
+    let mut next = [0u16; Schema::EDGES];
+    let mut leaving = [edges as u16; Schema::NODES];
+    chain(&g.source, edges, &mut next, &mut leaving);
     let mut t = trivial_paths(g.nodes);
     let mut n = g.nodes;
     let mut h = 0;
     let mut e = 0;
     while h < n {
         let node = t.end[h];
-        let k = next_place(&chains.next, &chains.first, node, e);
+        let k = next_place(&next, &leaving, node, e);
         if k < edges {
             let start = t.start[h];
             let longer = t.length[h] + 1;
-            let end = g.target[k];
             t.start[n] = start;
-            t.end[n] = end;
+            t.end[n] = g.target[k];
             t.length[n] = longer;
             t.parent[n] = h as u8;
             t.last[n] = k as u8;

@@ -25,8 +25,8 @@ sub-index c = search needs
 mul-index-2 : tie.Need-mul-index-2
 mul-index-2 c = search needs
 
-element-copy-out-index-2 : tie.Need-element-copy-out-index-2
-element-copy-out-index-2 c = search needs
+shared-slice-read-index : tie.Need-shared-slice-read-index
+shared-slice-read-index c = search needs
 
 index-requires-2 : tie.Need-index-requires-2
 index-requires-2 c κs = search needs
@@ -45,6 +45,6 @@ next-place-spec =
     returns
     sub-index
     mul-index-2
-    element-copy-out-index-2
+    shared-slice-read-index
     index-requires-2
     returns-2)
