@@ -43,74 +43,70 @@ fn renamed(old: u8, new: u8, x: u8) -> u8
 }
 
 // Class old gets the number new.
-fn rename(c: Classes, old: u8, new: u8) -> Classes
-    ensures { λ r. ⌜ r .of ≡ map (renamedTo old new) (c .of) ⌝ }
+fn rename(of: &mut [u8; Schema::PATHS], old: u8, new: u8)
+    ensures { λ _. ⌜ now (of .exit) ≡ map (renamedTo old new) (now (of .entry)) ⌝ }
 {
-    let mut of = c.of;
+    let all: &mut [u8] = of;
     let mut i = 0;
     while i < Schema::PATHS {
-        of[i] = renamed(old, new, of[i]);
+        all[i] = renamed(old, new, all[i]);
         i += 1;
     }
-    Classes { of: of }
 }
 
 // Two classes joined under the lower number.
-fn join(c: Classes, x: u8, y: u8) -> Classes
-    ensures { λ r. ⌜ r .of ≡ joinClasses x y (c .of) ⌝ }
+fn join(of: &mut [u8; Schema::PATHS], x: u8, y: u8)
+    ensures { λ _. ⌜ now (of .exit) ≡ joinClasses x y (now (of .entry)) ⌝ }
 {
     if x < y {
-        return rename(c, y, x);
+        rename(&mut *of, y, x);
+        return;
     }
-    rename(c, x, y)
+    rename(&mut *of, x, y);
 }
 
 // The classes of n paths from a on and of n from b on, joined in turn.
-fn join_runs(c: Classes, a: usize, b: usize, n: usize) -> Classes
+fn join_runs(of: &mut [u8; Schema::PATHS], a: usize, b: usize, n: usize)
     requires { ⌜ (a + n ≤ 256) × (b + n ≤ 256) ⌝ }
-    ensures { λ r. ⌜ r .of ≡ joinNumbers (runPairs a b n) (c .of) ⌝ }
+    ensures { λ _. ⌜ now (of .exit) ≡ joinNumbers (runPairs a b n) (now (of .entry)) ⌝ }
 {
-    let mut out = c;
     let mut j = 0;
     while j < n {
-        let x = out.of[a + j];
-        let y = out.of[b + j];
+        let x = of[a + j];
+        let y = of[b + j];
         j += 1;
         if x != y {
-            out = join(out, x, y);
+            join(&mut *of, x, y);
         }
     }
-    out
 }
 
 // The same of paths a and b, which have one end, and of what follows them by the same edges: depth lengths of them.
 fn join_followers(
     first: &[u16; Schema::PATHS + 1],
-    c: Classes,
+    of: &mut [u8; Schema::PATHS],
     a: usize,
     b: usize,
     depth: usize,
-) -> Classes
+)
     requires { ⌜ RunsIn (now first) a b 1 depth ⌝ }
-    ensures { λ r. ⌜ r .of ≡ joinNumbers (followerPairs (now (first .entry)) a b 1 depth) (c .of) ⌝ }
+    ensures { λ _. ⌜ now (of .exit) ≡ joinNumbers (followerPairs (now (first .entry)) a b 1 depth) (now (of .entry)) ⌝ }
 {
-    let mut out = c;
     let mut x = a;
     let mut y = b;
     let mut n = 1;
     let mut d = depth;
     while d > 0 {
         if n == 0 {
-            return out;
+            return;
         }
-        out = join_runs(out, x, y, n);
+        join_runs(&mut *of, x, y, n);
         let next = index(first[x]);
         n = index(first[x + n]) - next;
         x = next;
         y = index(first[y]);
         d -= 1;
     }
-    out
 }
 
 // The classes that an equation joins: behind each path u that ends at its start. Of each path, next has the next one with its end, and of each node,
@@ -119,26 +115,24 @@ fn join_equation<'a>(
     p: Paths,
     next: &'a [u16],
     ends: &'a [u16; Schema::NODES],
-    c: Classes,
+    of: &mut [u8; Schema::PATHS],
     left: Path,
     right: Path,
     nodes: usize,
-) -> Classes
+)
     requires { ⌜ Joinable p nodes left right × (p .count ≤ length (now next)) × Chained (p .end) (p .count) 0 (now next) (now ends) ⌝ }
-    ensures { λ r. ⌜ r .of ≡ joinNumbers (equationPairs p nodes left right) (c .of) ⌝ }
+    ensures { λ _. ⌜ now (of .exit) ≡ joinNumbers (equationPairs p nodes left right) (now (of .entry)) ⌝ }
 {
     let count = p.count;
     let first = p.first;
     let rank = p.rank;
-    let mut out = c;
     let mut u = index(ends[wide(left.start)]);
     while u < count {
         let a = walk(&first, &rank, u, &left.edges, left.length as usize);
         let b = walk(&first, &rank, u, &right.edges, right.length as usize);
-        out = join_followers(&first, out, a, b, nodes);
+        join_followers(&first, &mut *of, a, b, nodes);
         u = index(next[u]);
     }
-    out
 }
 
 // The class number of each path of a table. Where there are no equations, the table is not copied.
@@ -162,7 +156,7 @@ pub fn class_numbers(t: Schema, p: Paths) -> Classes
     while q < n {
         let left = lefts[q];
         let right = rights[q];
-        c = join_equation(p, &next, &ends, c, left, right, nodes);
+        join_equation(p, &next, &ends, &mut c.of, left, right, nodes);
         q += 1;
     }
     c

@@ -57,16 +57,16 @@ slice-aggregate-join-equation : tie.Need-slice-aggregate-join-equation Inv-loop 
 slice-aggregate-join-equation c = search needs
 
 join-equation-requires : tie.Need-join-equation-requires Inv-loop μ-loop
-join-equation-requires c κs = let a = c .before .before .before .before .before .before .before .before .before .before .before .before .before .before .before .before .before in (joinable (a .args .t) (a .args .p) (a .pre .0) (a .pre .1) (c .before .before .before .before .before .loop .q) (c .before .before .before .before .loop-test .taken), omega (arith, a .pre .1 .few), c .before .before .before .before .before .before .before .before .chain .ensures)
+join-equation-requires c κs = let a = c .before .before .before .before .before .before .before .before .before .before .before .before .before .before .before .before .before .before in (joinable (a .args .t) (a .args .p) (a .pre .0) (a .pre .1) (c .before .before .before .before .before .before .loop .q) (c .before .before .before .before .before .loop-test .taken), omega (arith, a .pre .1 .few), c .before .before .before .before .before .before .before .before .before .chain .ensures)
 
 add-q : tie.Need-add-q Inv-loop μ-loop
-add-q c = let k = c .before .before .before .before .before .before .before .before .before .before .before .before .before .before .before .before .before .before .pre .0 .limits .equations in omega (arith, c .before .before .before .before .before .loop-test .taken)
+add-q c = let k = c .before .before .before .before .before .before .before .before .before .before .before .before .before .before .before .before .before .before .before .pre .0 .limits .equations in omega (arith, c .before .before .before .before .before .before .loop-test .taken)
 
 loop-less : tie.Need-loop-less Inv-loop μ-loop
-loop-less c = let k = c .before .before .before .before .before .loop-test .taken in omega arith
+loop-less c = let k = c .before .before .before .before .before .before .loop-test .taken in omega arith
 
 loop-again : tie.Need-loop-again Inv-loop μ-loop
-loop-again c = turns-more (c .before .before .before .before .before .before .loop .inv) (c .before .before .before .before .before .loop-test .taken) (c .join-equation .ensures)
+loop-again c = turns-more (c .before .before .before .before .before .before .before .loop .inv) (c .before .before .before .before .before .before .loop-test .taken) (c .join-equation .ensures)
 
 returns-2 : tie.Need-returns-2 Inv-loop μ-loop
 returns-2 c = let a = c .before .before .before .before .before .before .before .before .before .before .before .before .before in class-column (a .args .t) (a .args .p) (a .pre .0) (a .pre .1) (turns-done (c .before .loop .inv) (c .loop-test .left) ∙ ap (joinNumbers (schemaPairs (a .args .t) (a .args .p))) (c .before .before .own-classes2 .ensures))

@@ -10,13 +10,13 @@ rename-requires : tie.Need-rename-requires
 rename-requires c κs = search needs
 
 returns : tie.Need-returns
-returns c = let a = c .before .before .args in c .rename .ensures ∙ join-lower (a .x) (a .y) (a .c .of) (let h = c .before .if1 .taken in omega arith)
+returns c = let a = c .before .before .before .args in c .rename .ensures ∙ join-lower (a .x) (a .y) (a .of .now) (let h = c .before .before .if1 .taken in omega arith)
 
 rename-requires-2 : tie.Need-rename-requires-2
 rename-requires-2 c κs = search needs
 
 returns-2 : tie.Need-returns-2
-returns-2 c = let a = c .before .before .args in c .rename2 .ensures ∙ join-upper (a .x) (a .y) (a .c .of) (c .before .if1 .left)
+returns-2 c = let a = c .before .before .before .args in c .rename2 .ensures ∙ join-upper (a .x) (a .y) (a .of .now) (c .before .before .if1 .left)
 
 pub join-spec : {M : Type 1} → statement M
 join-spec = tie.close (tie.spec rename-requires returns rename-requires-2 returns-2)

@@ -18,10 +18,10 @@ abbrev table : List ℕ → List ℕ → List ℕ → Paths
 table end first rank = record { count = 0; start = []; end = end; length = []; parent = []; last = []; class = []; first = first; rank = rank }
 
 abbrev Inv-loop : tie.InvT-loop
-Inv-loop next ends nodes left right count first rank out₀ u₀ out u = (end : List ℕ) → Chained end count 0 next ends → Turns (pairsAt (table end first rank) nodes left right) count (out₀ .of) u (out .of) × (u < count → getD end u 0 ≡ left .start)
+Inv-loop next ends of₀ nodes left right count first rank u₀ of u = (end : List ℕ) → Chained end count 0 next ends → Turns (pairsAt (table end first rank) nodes left right) count of₀ u of × (u < count → getD end u 0 ≡ left .start)
 
 abbrev μ-loop : tie.MeasureT-loop
-μ-loop next ends nodes left right count first rank out₀ u₀ out u = count - u
+μ-loop next ends of₀ nodes left right count first rank u₀ of u = count - u
 
 -- path u is in the table
 low : (c : tie.In-loop Inv-loop μ-loop) → c .before .loop .u < 256
@@ -32,12 +32,12 @@ first : (c : tie.After-index Inv-loop μ-loop) {end : List ℕ} → Chained end 
 first c {end} k = subst (NextAt end (c .before .before .before .before .before .before .args .t5 .start) 0 (c .before .before .before .before .before .before .args .p .count)) (sym (c .index .ensures ∙ ap (λ (v : ℕ). getD (c .before .before .before .before .before .before .args .ends .now) v 0) (c .before .before .wide .ensures))) (k .begins (c .before .before .before .before .before .before .args .t5 .start) (c .before .before .before .before .before .before .pre .0 .start))
 
 -- and the one after path u
-after : (c : tie.After-index2 Inv-loop μ-loop) {end : List ℕ} → Chained end (c .before .before .before .before .before .before .before .before .before .before .before .before .before .before .before .before .before .before .before .before .before .before .args .p .count) 0 (c .before .before .before .before .before .before .before .before .before .before .before .before .before .before .before .before .before .before .before .before .before .before .args .next .now) (c .before .before .before .before .before .before .before .before .before .before .before .before .before .before .before .before .before .before .before .before .before .before .args .ends .now) → NextAt end (c .before .before .before .before .before .before .before .before .before .before .before .before .before .before .before .before .before .before .before .before .before .before .args .t5 .start) (c .before .before .before .before .before .before .before .before .before .before .before .before .before .before .before .loop .u + 1) (c .before .before .before .before .before .before .before .before .before .before .before .before .before .before .before .before .before .before .before .before .before .before .args .p .count) (c .index2 .result)
+after : (c : tie.After-index2 Inv-loop μ-loop) {end : List ℕ} → Chained end (c .before .before .before .before .before .before .before .before .before .before .before .before .before .before .before .before .before .before .before .before .before .before .before .args .p .count) 0 (c .before .before .before .before .before .before .before .before .before .before .before .before .before .before .before .before .before .before .before .before .before .before .before .args .next .now) (c .before .before .before .before .before .before .before .before .before .before .before .before .before .before .before .before .before .before .before .before .before .before .before .args .ends .now) → NextAt end (c .before .before .before .before .before .before .before .before .before .before .before .before .before .before .before .before .before .before .before .before .before .before .before .args .t5 .start) (c .before .before .before .before .before .before .before .before .before .before .before .before .before .before .before .before .loop .u + 1) (c .before .before .before .before .before .before .before .before .before .before .before .before .before .before .before .before .before .before .before .before .before .before .before .args .p .count) (c .index2 .result)
 after c {end} k =
-    let u = c .before .before .before .before .before .before .before .before .before .before .before .before .before .before .before .loop .u in
-    let less = c .before .before .before .before .before .before .before .before .before .before .before .before .before .before .loop-test .taken in
-    let n = c .before .before .before .before .before .before .before .before .before .before .before .before .before .before .before .before .before .before .before .before .before .before .args .p .count in
-    subst (λ (v : ℕ). NextAt end v (u + 1) n (c .index2 .result)) (c .before .before .before .before .before .before .before .before .before .before .before .before .before .before .before .loop .inv end k .1 less) (subst (NextAt end (getD end u 0) (u + 1) n) (sym (c .index2 .ensures)) (k .after u (omega arith) less))
+    let u = c .before .before .before .before .before .before .before .before .before .before .before .before .before .before .before .before .loop .u in
+    let less = c .before .before .before .before .before .before .before .before .before .before .before .before .before .before .before .loop-test .taken in
+    let n = c .before .before .before .before .before .before .before .before .before .before .before .before .before .before .before .before .before .before .before .before .before .before .before .args .p .count in
+    subst (λ (v : ℕ). NextAt end v (u + 1) n (c .index2 .result)) (c .before .before .before .before .before .before .before .before .before .before .before .before .before .before .before .before .loop .inv end k .1 less) (subst (NextAt end (getD end u 0) (u + 1) n) (sym (c .index2 .ensures)) (k .after u (omega arith) less))
 
 wide-requires : tie.Need-wide-requires Inv-loop μ-loop
 wide-requires c κs = search needs
@@ -78,29 +78,29 @@ walk-requires-2 c κs =
 
 join-followers-requires : tie.Need-join-followers-requires Inv-loop μ-loop
 join-followers-requires c κs =
-    let a = c .before .before .before .before .before .before .before .before .before .before .before .before .before .before .before .before .before .before .before in
-    let v = c .before .before .before .before .before .before .before .before .before .before .before .before .loop in
-    let less = c .before .before .before .before .before .before .before .before .before .before .before .loop-test .taken in
-    rw (c .before .before .before .before .before .before .walk .ensures, c .before .walk2 .ensures) (a .pre .0 .runs (v .u) less (v .inv (a .args .p .end) (a .pre .2) .1 less))
+    let a = c .before .before .before .before .before .before .before .before .before .before .before .before .before .before .before .before .before .before .before .before in
+    let v = c .before .before .before .before .before .before .before .before .before .before .before .before .before .loop in
+    let less = c .before .before .before .before .before .before .before .before .before .before .before .before .loop-test .taken in
+    rw (c .before .before .before .before .before .before .before .walk .ensures, c .before .before .walk2 .ensures) (a .pre .0 .runs (v .u) less (v .inv (a .args .p .end) (a .pre .2) .1 less))
 
 mul-index-2 : tie.Need-mul-index-2 Inv-loop μ-loop
-mul-index-2 c = omega (arith, low (c .before .before .before .before .before .before .before .before .before .before .before .before))
+mul-index-2 c = omega (arith, low (c .before .before .before .before .before .before .before .before .before .before .before .before .before))
 
 shared-slice-read-index : tie.Need-shared-slice-read-index Inv-loop μ-loop
-shared-slice-read-index c = omega (arith, c .before .before .before .before .before .before .before .before .before .before .before .before .before .loop-test .taken, c .before .before .before .before .before .before .before .before .before .before .before .before .before .before .before .before .before .before .before .before .before .pre .1)
+shared-slice-read-index c = omega (arith, c .before .before .before .before .before .before .before .before .before .before .before .before .before .before .loop-test .taken, c .before .before .before .before .before .before .before .before .before .before .before .before .before .before .before .before .before .before .before .before .before .before .pre .1)
 
 index-requires-2 : tie.Need-index-requires-2 Inv-loop μ-loop
 index-requires-2 c κs = search needs
 
 loop-less : tie.Need-loop-less Inv-loop μ-loop
-loop-less c = let t = c .before .before .before .before .before .before .before .before .before .before .before .before .before .before .loop-test .taken in let h = after c (c .before .before .before .before .before .before .before .before .before .before .before .before .before .before .before .before .before .before .before .before .before .before .pre .2) .later in omega arith
+loop-less c = let t = c .before .before .before .before .before .before .before .before .before .before .before .before .before .before .before .loop-test .taken in let h = after c (c .before .before .before .before .before .before .before .before .before .before .before .before .before .before .before .before .before .before .before .before .before .before .before .pre .2) .later in omega arith
 
 loop-again : tie.Need-loop-again Inv-loop μ-loop
 loop-again c =
-    let less = c .before .before .before .before .before .before .before .before .before .before .before .before .before .before .loop-test .taken in
+    let less = c .before .before .before .before .before .before .before .before .before .before .before .before .before .before .before .loop-test .taken in
     λ end k.
-    let v = c .before .before .before .before .before .before .before .before .before .before .before .before .before .before .before .loop .inv end k in
-    (turns-next (λ j q. rw (ne-eqb _ _ q)) (turns-more (v .0) less (rw (eq-eqb _ _ (v .1 less), ← c .before .before .before .before .before .before .before .before .before .walk .ensures, ← c .before .before .before .before .walk2 .ensures) (c .before .before .join-followers .ensures))) (after c k), after c k .holds)
+    let v = c .before .before .before .before .before .before .before .before .before .before .before .before .before .before .before .before .loop .inv end k in
+    (turns-next (λ j q. rw (ne-eqb _ _ q)) (turns-more (v .0) less (rw (eq-eqb _ _ (v .1 less), ← c .before .before .before .before .before .before .before .before .before .before .walk .ensures, ← c .before .before .before .before .before .walk2 .ensures) (c .before .before .join-followers .ensures))) (after c k), after c k .holds)
 
 returns : tie.Need-returns Inv-loop μ-loop
 returns c = turns-done (c .before .loop .inv (c .before .before .before .before .before .before .before .before .args .p .end) (c .before .before .before .before .before .before .before .before .pre .2) .0) (c .loop-test .left)

@@ -8,10 +8,10 @@ use Rattle.paths.proofs.classes.join_runs.Statement.{statement}
 use Rattle.paths.proofs.classes.join_runs.Tie as tie
 
 abbrev Inv-loop : tie.InvT-loop
-Inv-loop a b n out₀ j₀ out j = Run a b n (out₀ .of) j (out .of)
+Inv-loop of₀ a b n j₀ of j = Run a b n of₀ j of
 
 abbrev μ-loop : tie.MeasureT-loop
-μ-loop a b n out₀ j₀ out j = n - j
+μ-loop of₀ a b n j₀ of j = n - j
 
 loop-holds : tie.Need-loop-holds Inv-loop μ-loop
 loop-holds c = run-start _ _ _ _
@@ -35,10 +35,10 @@ join-requires : tie.Need-join-requires Inv-loop μ-loop
 join-requires c κs = search needs
 
 loop-less : tie.Need-loop-less Inv-loop μ-loop
-loop-less c = let t = c .before .before .before .before .loop-test .taken in omega arith
+loop-less c = let t = c .before .before .before .before .before .loop-test .taken in omega arith
 
 loop-again : tie.Need-loop-again Inv-loop μ-loop
-loop-again c = run-more (c .before .before .before .before .before .loop .inv) (c .before .before .before .before .loop-test .taken) (c .join .ensures)
+loop-again c = run-more (c .before .before .before .before .before .before .loop .inv) (c .before .before .before .before .before .loop-test .taken) (c .join .ensures)
 
 loop-less-2 : tie.Need-loop-less-2 Inv-loop μ-loop
 loop-less-2 c = let t = c .before .before .before .loop-test .taken in omega arith
