@@ -4,17 +4,15 @@ use crate::Schema;
 use crate::numbers::index;
 use crate::numbers::wide;
 ghost use mathlib.Core.Path.{_≡_};
-ghost use Prim.Native.Nat.{min};
+ghost use Prim.Native.Nat.{min, _+_, _≤_};
 ghost use Rattle.meaning.proofs.PathCounts.{total};
-ghost use Rattle.schema.specs.Counted.{Fit, at, Few, Next, Counted};
+ghost use Rattle.schema.specs.Counted.{Fit, row, Few, Blank, First, Next, Counted};
 
 // Stands for any number of paths above the limit.
 const MANY: u16 = 257;
 
-// For each node, how many paths of one length start there.
-struct Tally {
-    paths: [u16; Schema::NODES],
-}
+// Room for a row of numbers for each length from 0 to the number of nodes: how many paths of that length start at each node.
+const TALLY: usize = Schema::NODES * (Schema::NODES + 1);
 
 fn capped(x: u16) -> u16
     ensures { λ r. ⌜ r ≡ min 257 x ⌝ }
@@ -22,36 +20,44 @@ fn capped(x: u16) -> u16
     if x < MANY { x } else { MANY }
 }
 
-// The tally of the next length: an edge hands its target's number to its source.
-fn next_tally(g: Graph, t: Tally) -> Tally
-    requires { ⌜ Fit g × Few g t ⌝ }
-    ensures { λ r. ⌜ Next g t r ⌝ }
+// The row of length 0: at each node the trivial path starts.
+fn first_row(nodes: usize, tally: &mut [u16; TALLY])
+    requires { ⌜ (nodes ≤ 16) × Blank (now tally) 0 ⌝ }
+    ensures { λ _. ⌜ First nodes (now (tally .exit)) ⌝ }
 {
-    let edges = g.edges;
-    let mut out = Tally {
-        paths: [0u16; Schema::NODES],
-    };
-    let mut e = 0;
-    while e < edges {
-        let node = wide(g.source[e]);
-        let behind = wide(g.target[e]);
-        let sum = capped(out.paths[node] + t.paths[behind]);
-        out.paths[node] = sum;
-        e += 1;
+    let all: &mut [u16] = tally;
+    let mut n = 0;
+    while n < nodes {
+        all[n] = 1;
+        n += 1;
     }
-    out
 }
 
-// How many paths of the tally's length there are in all.
-fn sum_nodes(g: Graph, t: Tally) -> u16
-    requires { ⌜ Fit g × Few g t ⌝ }
-    ensures { λ r. ⌜ r ≡ min 257 (total (at t) (g .nodes)) ⌝ }
+// The row behind the one at a position, for the next length: an edge hands its target's number to its source.
+fn next_row(g: Graph, tally: &mut [u16; TALLY], at: usize)
+    requires { ⌜ (Fit g × Few (g .nodes) (now tally) at) × ((at + 32 ≤ 272) × Blank (now tally) (at + 16)) ⌝ }
+    ensures { λ _. ⌜ Next g (now (tally .entry)) at (now (tally .exit)) ⌝ }
 {
-    let nodes = g.nodes;
+    let edges = g.edges;
+    let all: &mut [u16] = tally;
+    let mut e = 0;
+    while e < edges {
+        let node = at + Schema::NODES + wide(g.source[e]);
+        let behind = at + wide(g.target[e]);
+        all[node] = capped(all[node] + all[behind]);
+        e += 1;
+    }
+}
+
+// How many paths there are in all of the length whose row is at a position.
+fn sum_nodes(nodes: usize, tally: &[u16; TALLY], at: usize) -> u16
+    requires { ⌜ (nodes ≤ 16) × ((at + 16 ≤ 272) × Few nodes (now tally) at) ⌝ }
+    ensures { λ r. ⌜ r ≡ min 257 (total (row (now (tally .entry)) at) nodes) ⌝ }
+{
     let mut sum = 0u16;
     let mut n = 0;
     while n < nodes {
-        sum = capped(sum + t.paths[n]);
+        sum = capped(sum + tally[at + n]);
         n += 1;
     }
     sum
@@ -63,23 +69,30 @@ pub struct Count {
     pub looped: bool,
 }
 
+// Where a length has no paths, no longer one has any.
 pub fn count_paths(g: Graph) -> Count
     requires { ⌜ Fit g ⌝ }
     ensures { λ r. ⌜ Counted g r ⌝ }
 {
     let nodes = g.nodes;
-    let mut t = Tally {
-        paths: [1u16; Schema::NODES],
-    };
+    let mut tally = [0u16; TALLY];
+    first_row(nodes, &mut tally);
     let mut paths = 0u16;
     let mut k = 0;
     while k < nodes {
-        paths = capped(paths + sum_nodes(g, t));
-        t = next_tally(g, t);
+        let sum = sum_nodes(nodes, &tally, Schema::NODES * k);
+        if sum == 0 {
+            return Count {
+                paths: index(paths),
+                looped: false,
+            };
+        }
+        paths = capped(paths + sum);
+        next_row(g, &mut tally, Schema::NODES * k);
         k += 1;
     }
     Count {
         paths: index(paths),
-        looped: sum_nodes(g, t) > 0,
+        looped: sum_nodes(nodes, &tally, Schema::NODES * k) > 0,
     }
 }
