@@ -1,13 +1,13 @@
 -- What the decoded structs mean, and what the decoders promise of them.
 use Prim.Native.Nat.{ℕ, _+_, _*_, _^_, _≤_, _<_}
 use mathlib.Core.Path.{_≡_}
-use mathlib.Core.Bool.{Bool, false, cond}
+use mathlib.Core.Bool.{Bool, cond}
 use mathlib.Core.List.{List, []}
 use lib.ListN.{length, getD, replicate}
 use lib.Dec.{eqb}
 use Rattle.bits.specs.Field as bits
 use Rattle.theory.specs.Numbering.{tabulate}
-use Rattle.meaning.specs.Sheet.{Read, fails, reads, Judged, faulty, sound, judged, times}
+use Rattle.meaning.specs.Sheet.{Read, fails, reads, Judged, faulty, sound, judged}
 use Rattle.meaning.specs.Schema as meaning
 use Rattle.meaning.specs.Formats as formats
 use Rattle.meaning.specs.Formats.{readPath, readEquation, readBody}
@@ -18,7 +18,6 @@ use Rattle.schema.specs.declared.Schema.{Schema}
 use Rattle.schema.specs.declared.decode.Counts.{Counts}
 use Rattle.schema.specs.declared.decode.PathRead.{PathRead}
 use Rattle.schema.specs.declared.decode.EquationRead.{EquationRead}
-use Rattle.schema.specs.declared.decode.EquationsRead.{EquationsRead}
 
 -- ---- what a struct means
 
@@ -116,11 +115,6 @@ pub record EquationTaken (s : List ℕ) (at : ℕ) (r : EquationRead) : Type 0 w
 pub record Short (n : ℕ) (l : List Path) : Type 0 where
   pub each : (i : ℕ) → i < n → getD l i noPath .length ≤ 15
 
-pub record EquationsTaken (s : List ℕ) (at n : ℕ) (r : EquationsRead) : Type 0 where
-  pub says : readOf (r .cut) (equationsOf n (r .left) (r .right)) (r .next) ≡ times n readEquation s at
-  pub inside : r .next ≤ 8 * length s
-  pub short : (r .cut ≡ false → Short n (r .left) × Short n (r .right))
-
 -- ---- a schema
 
 pub record GraphTaken (s : List ℕ) (n m : ℕ) (g : Graph) : Type 0 where
@@ -130,6 +124,16 @@ pub record GraphTaken (s : List ℕ) (n m : ℕ) (g : Graph) : Type 0 where
 
 abbrev pub countsOf : Counts → formats.Counts
 countsOf c = record { nodes = c .nodes; edges = c .edges; attributes = c .attributes; equations = c .equations }
+
+-- all but the equations, for which there is room
+pub record TablesTaken (c : formats.Counts) (s : List ℕ) (t : Schema) : Type 0 where
+  pub fault : t .fault ≡ 0
+  pub graph : GraphTaken s (c .nodes) (c .edges) (t .graph)
+  pub attributes : t .attributes ≡ c .attributes
+  pub node : Column s (22 + 8 * c .edges) 8 4 16 (c .attributes) (t .node)
+  pub kind : Column s (22 + 8 * c .edges + 4) 8 4 16 (c .attributes) (t .kind)
+  pub equations : t .equations ≡ c .equations
+  pub long : (length (t .left) ≡ 32) × (length (t .right) ≡ 32)
 
 abbrev pub onBody : formats.Counts → List ℕ → Judged meaning.Schema
 onBody c s = judged (readBody c s 22)

@@ -13,7 +13,7 @@ ghost use lib.ListN.{length};
 ghost use Rattle.bits.specs.Field.{field};
 ghost use Rattle.meaning.specs.Formats.{countsInLimits};
 ghost use Rattle.meaning.proofs.Formats.{countsIn};
-ghost use Rattle.schema.specs.Decoded.{Block, Column, Near, GraphTaken, PathTaken, EquationTaken, EquationsTaken, countsOf, onBody, Decoded};
+ghost use Rattle.schema.specs.Decoded.{Block, Column, Near, GraphTaken, PathTaken, EquationTaken, TablesTaken, countsOf, onBody, Decoded};
 
 // A field of at most 8 bits.
 pub fn small(s: &[u8], at: usize, width: usize) -> u8
@@ -123,48 +123,6 @@ fn read_equation(s: &[u8], at: usize) -> EquationRead
     }
 }
 
-// n equations, one after the other.
-struct EquationsRead {
-    cut: bool,
-    next: usize,
-    left: [Path; Schema::EQUATIONS],
-    right: [Path; Schema::EQUATIONS],
-}
-
-fn read_equations(s: &[u8], at: usize, n: usize) -> EquationsRead
-    requires { ⌜ Near (now s) at (166 * n) × (n ≤ 32) ⌝ }
-    ensures { λ r. ⌜ EquationsTaken (now (s .entry)) at n r ⌝ }
-{
-    let none = Path::empty();
-    let mut left = [none; Schema::EQUATIONS];
-    let mut right = [none; Schema::EQUATIONS];
-    let mut i = 0;
-    let mut p = at;
-    while i < n {
-        let equation = read_equation(s, p);
-        if equation.cut {
-            return EquationsRead {
-                cut: true,
-                next: at,
-                left: left,
-                right: right,
-            };
-        }
-        let a = equation.left;
-        let b = equation.right;
-        left[i] = a;
-        right[i] = b;
-        p = equation.next;
-        i += 1;
-    }
-    EquationsRead {
-        cut: false,
-        next: p,
-        left: left,
-        right: right,
-    }
-}
-
 // The edges, which follow the leading counts.
 fn read_graph(s: &[u8], nodes: usize, edges: usize) -> Graph
     requires { ⌜ (edges ≤ 32) × (22 + 8 * edges ≤ 8 * length (now s)) ⌝ }
@@ -234,38 +192,55 @@ pub(crate) fn in_limits(c: Counts) -> bool
     c.equations <= Schema::EQUATIONS
 }
 
+// The edges and the attributes, with no equation read yet.
+fn read_tables(s: &[u8], c: Counts) -> Schema
+    requires { ⌜ (countsInLimits (countsOf c) ≡ true) × (22 + 8 * c .edges + 8 * c .attributes ≤ 8 * length (now s)) ⌝ }
+    ensures { λ r. ⌜ TablesTaken (countsOf c) (now (s .entry)) r ⌝ }
+{
+    let attributes = c.attributes;
+    let middle = Counts::BITS + 8 * c.edges;
+    let graph = read_graph(s, c.nodes, c.edges);
+    let node = column(s, middle, 8, 4, attributes);
+    let kind = column(s, middle + 4, 8, 4, attributes);
+    let none = Path::empty();
+    let sides = [none; Schema::EQUATIONS];
+    Schema {
+        fault: 0,
+        graph: graph,
+        attributes: attributes,
+        node: node,
+        kind: kind,
+        equations: c.equations,
+        left: sides,
+        right: sides,
+    }
+}
+
 // What follows the leading counts, or the number with which the sheet is sent back before any test of its sense.
 pub(crate) fn decode_body(s: &[u8], c: Counts) -> Schema
     requires { ⌜ (22 ≤ 8 * length (now s)) × (countsInLimits (countsOf c) ≡ true) ⌝ }
     ensures { λ r. ⌜ Decoded r (onBody (countsOf c) (now (s .entry))) ⌝ }
 {
-    let attributes = c.attributes;
-    let middle = Counts::BITS + 8 * c.edges;
-    let last = middle + 8 * attributes;
-    if lacks_at(s, 0, last) {
+    let mut p = Counts::BITS + 8 * c.edges + 8 * c.attributes;
+    if lacks_at(s, 0, p) {
         return Schema::faulty(faults::CUT);
     }
-    let equations = read_equations(s, last, c.equations);
-    if equations.cut {
-        return Schema::faulty(faults::CUT);
+    let mut t = read_tables(s, c);
+    let mut i = 0;
+    while i < c.equations {
+        let equation = read_equation(s, p);
+        if equation.cut {
+            return Schema::faulty(faults::CUT);
+        }
+        let a = equation.left;
+        let b = equation.right;
+        t.left[i] = a;
+        t.right[i] = b;
+        p = equation.next;
+        i += 1;
     }
-    let next = equations.next;
-    if ends_at(s, next) {
-        let graph = read_graph(s, c.nodes, c.edges);
-        let node = column(s, middle, 8, 4, attributes);
-        let kind = column(s, middle + 4, 8, 4, attributes);
-        let left = equations.left;
-        let right = equations.right;
-        return Schema {
-            fault: 0,
-            graph: graph,
-            attributes: attributes,
-            node: node,
-            kind: kind,
-            equations: c.equations,
-            left: left,
-            right: right,
-        };
+    if ends_at(s, p) {
+        return t;
     }
     Schema::faulty(faults::TAIL)
 }
