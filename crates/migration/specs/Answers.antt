@@ -82,6 +82,9 @@ returned l = (encoded (l .answer), l .tray)
 abbrev pub orNext : Refusal → Refusal → Refusal
 orNext r next = cond (eqb (r .number) 0) next r
 
+abbrev pub firstRefusal : ℕ → ℕ → ℕ → Refusal
+firstRefusal a b c = orNext (orNext (record { number = a; place = 1 }) (record { number = b; place = 2 })) (record { number = c; place = 3 })
+
 module _ {A : Type 0} where
   abbrev pub outcomeOf : Refusal → A → Outcome A
   outcomeOf r a = cond (eqb (r .number) 0) (accepted a) (refused (r .number) (r .place))

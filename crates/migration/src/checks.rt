@@ -57,11 +57,7 @@ pub fn check_mapping(s: &[u8], t: &[u8], f: &[u8]) -> Verdict
         &target_paths.class,
         f,
     );
-    let first = Refusal {
-        number: source.fault,
-        place: 1,
-    };
-    verdict(first.or(target.fault, 2).or(mapping.fault, 3))
+    verdict(Refusal::first(source.fault, target.fault, mapping.fault))
 }
 
 // The refusal of an instance sheet at place 2, for a schema with few columns.
@@ -124,11 +120,7 @@ pub fn same_path(s: &[u8], p: &[u8], q: &[u8]) -> Equality
     let graph = schema.graph;
     let a = judge_path(graph, p);
     let b = judge_path(graph, q);
-    let first = Refusal {
-        number: schema.fault,
-        place: 1,
-    };
-    let refusal = first.or(a.fault, 2).or(b.fault, 3);
+    let refusal = Refusal::first(schema.fault, a.fault, b.fault);
     if refusal.number == 0 {
         let left = a.path;
         let right = b.path;

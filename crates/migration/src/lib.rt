@@ -24,7 +24,7 @@ pub use printing::push;
 pub use turnings::pushed_to_raw;
 pub use turnings::raw_to_pushed;
 ghost use mathlib.Core.Path.{_≡_};
-ghost use Rattle.migration.specs.Answers.{orNext};
+ghost use Rattle.migration.specs.Answers.{orNext, firstRefusal};
 
 // Why a call refuses: a number from 1 to 17 and the place of the sheet that it is about, counted from 1, or 0 for all sheets together.
 // Inside the library the number 0 is no refusal.
@@ -51,6 +51,17 @@ impl Refusal {
 
     // A list that is not a matching.
     pub const NO_MATCH: u8 = 17;
+
+    // The refusal of the first of three sheets, at places 1, 2 and 3, that has one.
+    fn first(a: u8, b: u8, c: u8) -> Refusal
+        ensures { λ r. ⌜ r ≡ firstRefusal a b c ⌝ }
+    {
+        let one = Refusal {
+            number: a,
+            place: 1,
+        };
+        one.or(b, 2).or(c, 3)
+    }
 
     // This refusal or, where it is none, the next.
     fn or(self, number: u8, place: u8) -> Refusal

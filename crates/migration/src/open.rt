@@ -42,11 +42,7 @@ pub(crate) fn open(s: &[u8], t: &[u8], f: &[u8]) -> Opened
         &target_paths.class,
         f,
     );
-    let first = Refusal {
-        number: source.fault,
-        place: 1,
-    };
-    let refusal = first.or(target.fault, 2).or(mapping.fault, 3);
+    let refusal = Refusal::first(source.fault, target.fault, mapping.fault);
     Opened {
         refusal: refusal,
         source: source,

@@ -5,8 +5,8 @@ use Rattle.schema.specs.Decoded.{schemaOf}
 use Rattle.mapping.specs.Decoded.{mappingOf}
 use Rattle.mapping.proofs.Sides.{numbers}
 use Rattle.migration.specs.declared.Refusal.{Refusal}
-use Rattle.migration.specs.Answers.{orNext, outcomeOf}
-use Rattle.migration.proofs.Refusing.{refusal, yields}
+use Rattle.migration.specs.Answers.{firstRefusal, outcomeOf}
+use Rattle.migration.proofs.Refusing.{yields}
 use Rattle.migration.proofs.Checking.{mapping-opened}
 use borrow.Author.Needs.{needs}
 use Rattle.migration.proofs.checks.check_mapping.Statement.{statement}
@@ -24,26 +24,22 @@ path-table-requires c κs = search needs
 judge-mapping-requires : tie.Need-judge-mapping-requires
 judge-mapping-requires c κs = let t = c .before .before .before .before .before .judge-schema2 .ensures .sound in (c .before .before .before .before .before .before .judge-schema .ensures .sound, t, numbers t (c .before .before .before .before .path-table .ensures))
 
-or-requires : tie.Need-or-requires
-or-requires c κs = search needs
-
-or-requires-2 : tie.Need-or-requires-2
-or-requires-2 c κs = search needs
+first-requires : tie.Need-first-requires
+first-requires c κs = search needs
 
 verdict-requires : tie.Need-verdict-requires
 verdict-requires c κs = search needs
 
 returns : tie.Need-returns
 returns c =
-    let source = c .before .before .before .before .before .before .before .before .before .before .judge-schema in
-    let target = c .before .before .before .before .before .before .before .before .before .judge-schema2 in
-    let m = c .before .before .before .judge-mapping in
-    let x = c .before .before .before .before .before .before .before .before .before .before .before .before .before .before .args in
+    let source = c .before .before .before .before .before .before .before .before .before .judge-schema in
+    let target = c .before .before .before .before .before .before .before .before .judge-schema2 in
+    let m = c .before .before .judge-mapping in
+    let x = c .before .before .before .before .before .before .before .before .before .before .before .before .before .args in
     let M : Migration = record { S = schemaOf (source .result); T = schemaOf (target .result); F = mappingOf (source .result) (m .result) } in
-    let faults : Refusal = orNext (orNext (refusal (source .result .fault) 1) (refusal (target .result .fault) 2)) (refusal (m .result .fault) 3) in
     c .verdict .ensures
-    ∙ ap (λ (r : Refusal). outcomeOf r tt) (c .before .or2 .ensures ∙ ap (λ (r : Refusal). orNext r (refusal (m .result .fault) 3)) (c .before .before .or .ensures))
-    ∙ yields faults M (mapping-opened (source .result) (x .s .now) (source .ensures .says) (target .result) (m .result) (x .t .now) (x .f .now) (target .ensures .says) (m .ensures .says)) (λ _. tt)
+    ∙ ap (λ (r : Refusal). outcomeOf r tt) (c .before .first .ensures)
+    ∙ yields (firstRefusal (source .result .fault) (target .result .fault) (m .result .fault)) M (mapping-opened (source .result) (x .s .now) (source .ensures .says) (target .result) (m .result) (x .t .now) (x .f .now) (target .ensures .says) (m .ensures .says)) (λ _. tt)
 
 pub check-mapping-spec : {M : Type 1} → statement M
 check-mapping-spec =
@@ -53,7 +49,6 @@ check-mapping-spec =
     judge-schema-requires-2
     path-table-requires
     judge-mapping-requires
-    or-requires
-    or-requires-2
+    first-requires
     verdict-requires
     returns)

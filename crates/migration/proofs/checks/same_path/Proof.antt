@@ -11,21 +11,17 @@ use borrow.Author.Needs.{needs}
 use Rattle.migration.proofs.checks.same_path.Statement.{statement}
 use Rattle.migration.proofs.checks.same_path.Tie as tie
 
--- the first refusal of the three sheets
-joined : (c : tie.After-struct-known) → c .before .or2 .result ≡ orNext (orNext (refusal (c .before .before .before .before .before .before .judge-schema .result .fault) 1) (refusal (c .before .before .before .before .judge-path .result .fault) 2)) (refusal (c .before .before .before .judge-path2 .result .fault) 3)
-joined c = c .before .or2 .ensures ∙ ap (λ (r : Refusal). orNext r (refusal (c .before .before .before .judge-path2 .result .fault) 3)) (c .before .before .or .ensures)
-
-compared : (c : tie.After-struct-known) → outcomeOf (c .before .or2 .result) (equal (schemaOf (c .before .before .before .before .before .before .judge-schema .result)) (pathOf (c .before .before .before .before .judge-path .result .path)) (pathOf (c .before .before .before .judge-path2 .result .path))) ≡ samePath (c .before .before .before .before .before .before .before .before .before .before .args .s .now) (c .before .before .before .before .before .before .before .before .before .before .args .p .now) (c .before .before .before .before .before .before .before .before .before .before .args .q .now)
+compared : (c : tie.After-struct-known) → outcomeOf (c .before .first .result) (equal (schemaOf (c .before .before .before .before .before .judge-schema .result)) (pathOf (c .before .before .before .judge-path .result .path)) (pathOf (c .before .before .judge-path2 .result .path))) ≡ samePath (c .before .before .before .before .before .before .before .before .before .args .s .now) (c .before .before .before .before .before .before .before .before .before .args .p .now) (c .before .before .before .before .before .before .before .before .before .args .q .now)
 compared c =
-    let s = c .before .before .before .before .before .before .judge-schema in
-    let a = c .before .before .before .before .judge-path in
-    let b = c .before .before .before .judge-path2 in
-    let x = c .before .before .before .before .before .before .before .before .before .before .args in
-    ap (λ (r : Refusal). outcomeOf r (equal (schemaOf (s .result)) (pathOf (a .result .path)) (pathOf (b .result .path)))) (joined c) ∙ paths-compared (s .result) (x .s .now) (s .ensures .says) (a .result) (b .result) (x .p .now) (x .q .now) (a .ensures .says) (b .ensures .says)
+    let s = c .before .before .before .before .before .judge-schema in
+    let a = c .before .before .before .judge-path in
+    let b = c .before .before .judge-path2 in
+    let x = c .before .before .before .before .before .before .before .before .before .args in
+    ap (λ (r : Refusal). outcomeOf r (equal (schemaOf (s .result)) (pathOf (a .result .path)) (pathOf (b .result .path)))) (c .before .first .ensures) ∙ paths-compared (s .result) (x .s .now) (s .ensures .says) (a .result) (b .result) (x .p .now) (x .q .now) (a .ensures .says) (b .ensures .says)
 
 -- the answer where no sheet is refused
-answered : (c : tie.After-equal) → accepted (c .equal .result) ≡ samePath (c .before .before .before .before .before .before .before .before .before .before .before .before .before .before .args .s .now) (c .before .before .before .before .before .before .before .before .before .before .before .before .before .before .args .p .now) (c .before .before .before .before .before .before .before .before .before .before .before .before .before .before .args .q .now)
-answered c = ap accepted (c .equal .ensures) ∙ sym (no-refusal (c .before .before .before .before .before .or2 .result) _ (c .before .before .before .if1 .taken)) ∙ compared (c .before .before .before .before)
+answered : (c : tie.After-equal) → accepted (c .equal .result) ≡ samePath (c .before .before .before .before .before .before .before .before .before .before .before .before .before .args .s .now) (c .before .before .before .before .before .before .before .before .before .before .before .before .before .args .p .now) (c .before .before .before .before .before .before .before .before .before .before .before .before .before .args .q .now)
+answered c = ap accepted (c .equal .ensures) ∙ sym (no-refusal (c .before .before .before .before .before .first .result) _ (c .before .before .before .if1 .taken)) ∙ compared (c .before .before .before .before)
 
 judge-schema-requires : tie.Need-judge-schema-requires
 judge-schema-requires c κs = search needs
@@ -36,19 +32,16 @@ judge-path-requires c κs = search needs
 judge-path-requires-2 : tie.Need-judge-path-requires-2
 judge-path-requires-2 c κs = search needs
 
-or-requires : tie.Need-or-requires
-or-requires c κs = search needs
-
-or-requires-2 : tie.Need-or-requires-2
-or-requires-2 c κs = search needs
+first-requires : tie.Need-first-requires
+first-requires c κs = search needs
 
 equal-requires : tie.Need-equal-requires
 equal-requires c κs =
-    let s = c .before .before .before .before .before .before .before .before .before .judge-schema in
-    let a = c .before .before .before .before .before .before .before .judge-path in
-    let b = c .before .before .before .before .before .before .judge-path2 in
+    let s = c .before .before .before .before .before .before .before .before .judge-schema in
+    let a = c .before .before .before .before .before .before .judge-path in
+    let b = c .before .before .before .before .before .judge-path2 in
     let first = orNext (refusal (s .result .fault) 1) (refusal (a .result .fault) 2) in
-    let e = ap (λ (r : Refusal). r .number) (sym (joined (c .before .before .before))) ∙ c .before .before .if1 .taken in (
+    let e = ap (λ (r : Refusal). r .number) (sym (c .before .before .before .before .first .ensures)) ∙ c .before .before .if1 .taken in (
       s .ensures .sound,
       record { short = a .ensures .short; path = a .ensures .path (none-next (refusal (s .result .fault) 1) (refusal (a .result .fault) 2) (none-first first (refusal (b .result .fault) 3) e)) },
       record { short = b .ensures .short; path = b .ensures .path (none-next first (refusal (b .result .fault) 3) e) },
@@ -61,7 +54,7 @@ returns-2 : tie.Need-returns-2
 returns-2 c = ap accepted (sym (c .if2 .left)) ∙ answered (c .before)
 
 returns-3 : tie.Need-returns-3
-returns-3 c = sym (some-refusal (c .before .before .or2 .result) _ (c .if1 .left)) ∙ compared (c .before)
+returns-3 c = sym (some-refusal (c .before .before .first .result) _ (c .if1 .left)) ∙ compared (c .before)
 
 pub same-path-spec : {M : Type 1} → statement M
 same-path-spec =
@@ -70,8 +63,7 @@ same-path-spec =
     judge-schema-requires
     judge-path-requires
     judge-path-requires-2
-    or-requires
-    or-requires-2
+    first-requires
     equal-requires
     returns
     returns-2
