@@ -68,7 +68,7 @@ pub const MOST_MATCHING_BYTES: usize = 576;
 pub const STACK_CHECK_SCHEMA: usize = 16 * 1024;
 
 /// The stack that [`check_mapping`] needs.
-pub const STACK_CHECK_MAPPING: usize = 40 * 1024;
+pub const STACK_CHECK_MAPPING: usize = 24 * 1024;
 
 /// The stack that [`check_instance`] needs.
 pub const STACK_CHECK_INSTANCE: usize = 120 * 1024;
