@@ -9,13 +9,16 @@
  *   mapping     each node's image 4; each edge's image: length 4, edges 5 each; each attribute's image 4
  *   instance    each table's row count 10; for each edge, each source row's target row 9; for each attribute, each row's value 32
  *   matching    for each row, tables in order, the row of its partner 9
+ *   chain       steps 8; each step: equation 5, direction 1 (0 left side to right, 1 back), edges before the replaced part 4, counted in
+ *               the path as it stands before that step
  * Everything is numbered from 0, the kinds of attributes as docs/sheet/schema.md lists them. The tool `sheet` makes sheets from readable
  * text (docs/sheet/commands.md).
  *
  * A pointer may be null only where its length is 0. Two lent byte strings may overlap, unless one of them is a tray.
  *
  * Every call gives a 64-bit number:
- *   below 2^32                      accepted: the byte length of the result; 0 for a check; for migration_same_path 1 equal, 0 unequal
+ *   below 2^32                      accepted: the byte length of the result; 0 for a check; for migration_same_path 1 equal, 0 unequal;
+ *                                   for migration_path_chain 0 unequal
  *   2^32 + 256 * number + place     refused: number says why (below), place is the sheet's, counted from 1 in the order of the
  *                                   parameters; 0 where the condition is one of all sheets together
  *
@@ -58,8 +61,8 @@ enum {
     MIGRATION_NO_MATCH = 17     /* the list is not a matching */
 };
 
-/* A tray of this many bytes holds every instance sheet, and of this many every matching sheet. */
-enum { MIGRATION_INSTANCE_BYTES = 51220, MIGRATION_MATCHING_BYTES = 576 };
+/* A tray of this many bytes holds every instance sheet, of this many every matching sheet, and of this many every chain sheet. */
+enum { MIGRATION_INSTANCE_BYTES = 51220, MIGRATION_MATCHING_BYTES = 576, MIGRATION_CHAIN_BYTES = 320 };
 
 /* The calls have their working arrays on the stack. A call needs at most so many bytes of it, whatever it is lent, below the frame that makes it;
  * a thread that makes the call needs them besides what its own code needs. */
@@ -68,6 +71,7 @@ enum {
     MIGRATION_STACK_CHECK_MAPPING = 24576,
     MIGRATION_STACK_CHECK_INSTANCE = 122880,
     MIGRATION_STACK_SAME_PATH = 20480,
+    MIGRATION_STACK_PATH_CHAIN = 32768,
     MIGRATION_STACK_DELTA = 253952,
     MIGRATION_STACK_SIGMA = 262144,
     MIGRATION_STACK_PI = 524288,
@@ -90,6 +94,13 @@ uint64_t migration_check_instance(const uint8_t *s, size_t s_len, const uint8_t 
 
 /* Whether two paths (places 2, 3) of a schema (place 1) are equal by its equations. */
 uint64_t migration_same_path(const uint8_t *s, size_t s_len, const uint8_t *p, size_t p_len, const uint8_t *q, size_t q_len);
+
+/* Which equations make two paths (places 2, 3) of a schema (place 1) equal: a chain of steps from the first path to the second, each of which
+ * replaces one side of an equation, standing in the path, by the other. The chain has the fewest steps possible, and among those it is the first
+ * in the order of its numbers. It is a chain sheet, written to the tray; where both paths are the same list it has 0 steps, which is one byte 0.
+ * The answer is 0 where the paths are unequal, and nowhere else; then nothing is written, and the tray may have any length. At place 0: 16. */
+uint64_t migration_path_chain(const uint8_t *s, size_t s_len, const uint8_t *p, size_t p_len, const uint8_t *q, size_t q_len,
+                              uint8_t *tray, size_t tray_len);
 
 /* Delta along a mapping from S to T (places 1 to 3) of an instance of T (place 4): an instance sheet of S, written to the tray.
  * At place 0: 15, 16. */

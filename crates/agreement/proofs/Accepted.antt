@@ -27,7 +27,7 @@ module _ {A B : Type 0} where
   bind-accepted (accepted a) k e = (a, refl, e)
 
   -- a judged sheet, and what comes after it
-  sheet-accepted : (place : ℕ) (j : Judged A) (k : A → Outcome B) {b : B} → (at place j >>= k) ≡ accepted b → (a : A) × (j ≡ sound a) × (k a ≡ accepted b)
+  pub sheet-accepted : (place : ℕ) (j : Judged A) (k : A → Outcome B) {b : B} → (at place j >>= k) ≡ accepted b → (a : A) × (j ≡ sound a) × (k a ≡ accepted b)
   sheet-accepted place (faulty n) k e = absurd (refused-not-accepted e)
   sheet-accepted place (sound a) k e = (a, refl, e)
 

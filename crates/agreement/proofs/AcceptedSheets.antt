@@ -1,13 +1,14 @@
--- The path question and the migrations on accepted sheets: which refusal of all sheets together, by what it counts, or which result.
+-- The path question, chains and migrations on accepted sheets: which refusal of all sheets together, by what it counts, or which result.
 use Prim.Native.Nat.{ℕ, _<_}
 use mathlib.Core.Path.{_≡_, refl, sym, ap, _∙_, subst}
 use mathlib.Core.Bool.{Bool, true, false, _&&_}
 use mathlib.Core.List.{List, [], _∷_, List·Memᴰ, List·Memᴰ·head, List·Memᴰ·tail}
+use mathlib.Core.Option.{Option, none, some}
 use mathlib.Core.Logic.{_↔_}
 use native.Mathlib.Omega.{arith}
 use lib.ListN.{length, length-map}
 use lib.Dec.{leb}
-use borrow.Author.Tests.{leb-true, leb-false, lt-leb}
+use borrow.Author.Tests.{leb-true, leb-false, lt-leb, le-leb}
 use Rattle.theory.specs.Instance as theory
 use Rattle.theory.specs.Mapping.{Even, Bijective}
 use Rattle.theory.specs.Schema.{IsPath}
@@ -16,25 +17,31 @@ use Rattle.theory.proofs.Instance.{alike-rows}
 use Rattle.theory.proofs.Family.{components-one}
 use Rattle.meaning.specs.Lists.{all, upto, sumOf}
 use Rattle.meaning.specs.Schema.{Path, Schema, isPath}
+use Rattle.meaning.specs.PathChain.{Step, firstChain}
 use Rattle.meaning.specs.PathEquality.{equal}
 use Rattle.meaning.specs.Sheet.{sound, onSheet}
-use Rattle.meaning.specs.Formats.{Mapping, Instance, maxComponents, maxRows, readPathSheet}
+use Rattle.meaning.specs.Formats.{Mapping, Instance, maxComponents, maxPaths, maxRows, readPathSheet, readChain, chainSheet}
 use Rattle.meaning.specs.Views.{schemaOf, mappingOf, instanceOf}
 use Rattle.meaning.specs.Judge.{judgePath, judgeSchema}
 use Rattle.meaning.specs.Delta.{delta}
 use Rattle.meaning.specs.Evenness.{even}
 use Rattle.meaning.specs.Sigma.{sigma}
 use Rattle.meaning.specs.Pi.{isBijective, components, hasFewComponents, pi}
-use Rattle.meaning.specs.Calls.{Outcome, refused, accepted, _>>=_, ensure, ensureFits, samePath, Migrated, deltaTables, sigmaTables, piTables}
+use Rattle.meaning.specs.Calls.{Outcome, refused, accepted, _>>=_, ensure, ensureFits, samePath, explanation, pathChain, Migrated, deltaTables, sigmaTables, piTables, Lent, inTray}
 use Rattle.meaning.proofs.Lists.{no-bool, test-false, upto-all, of-upto}
 use Rattle.meaning.proofs.Readers.{sound-same, bind-sound, ensure-sound}
 use Rattle.meaning.proofs.Facts.{schema-facts}
+use Rattle.meaning.proofs.Written.{chain-sheet-length, chain-read}
+use Rattle.agreement.specs.Paths.{EqualPaths, WellFormed, pathCount}
+use Rattle.agreement.specs.PathChains.{IsFirstChain, ChainAnswers}
 use Rattle.agreement.specs.Valid.{ValidMapping}
 use Rattle.agreement.proofs.Valid.{mapping-valid, instance-valid}
 use Rattle.agreement.proofs.Tests.{refused-not-accepted, accepted-same}
+use Rattle.agreement.proofs.Outcomes.{accepted-tray}
 use Rattle.agreement.proofs.Tables.{rows-sum}
 use Rattle.agreement.proofs.Paths.{path-iff}
-use Rattle.agreement.proofs.Classes.{equal-paths-iff}
+use Rattle.agreement.proofs.FirstChains.{first-chain, chain-some, chain-none-iff, first-chain-fits}
+use Rattle.agreement.proofs.Classes.{equal-paths-iff, unequal}
 use Rattle.agreement.proofs.Mappings.{schema-well-formed}
 use Rattle.agreement.proofs.Evenness.{even-iff}
 use Rattle.agreement.proofs.Delta.{delta-rows}
@@ -263,6 +270,14 @@ module _ (s t f i : List ℕ) {S T : Schema} {F : Mapping} {I : Instance} (x : I
 
 -- ---- the path question
 
+-- a chain's sheet has a byte, so that no bytes are no chain
+some-byte : (c : List Step) → length (chainSheet c) ≡ 0 → ⊥
+some-byte c e = omega (arith, chain-sheet-length c)
+
+no-steps : (x : Option (List Step)) → explanation x ≡ [] → x ≡ none
+no-steps none e = refl
+no-steps (some c) e = absurd (some-byte c (ap length e))
+
 module _ (s p q : List ℕ) {S : Schema} {P Q : Path} (a : judgeSchema s ≡ sound S) (b : judgePath (S .graph) p ≡ sound P) (c : judgePath (S .graph) q ≡ sound Q) where
   path-yields : samePath s p q ≡ accepted (equal S P Q)
   path-yields = rw (a, b, c)
@@ -273,11 +288,51 @@ module _ (s p q : List ℕ) {S : Schema} {P Q : Path} (a : judgeSchema s ≡ sou
       let t = ensure-sound (isPath (S .graph) (r .0)) 4 _ (r .2) in
       subst (λ (X : Path). IsPath (schemaOf S) (X .start) (X .edges)) (sound-same (t .1)) (path-iff S (schema-facts s a .well-formed) (r .0 .start) (r .0 .edges) .0 (t .0))
 
+  formed : WellFormed S
+  formed = schema-well-formed (schema-facts s a)
+
+  equal-iff : (equal S P Q ≡ true) ↔ EqualPaths S P Q
+  equal-iff = equal-paths-iff S formed P Q (is-path p b) (is-path q c)
+
   pub path-answers : PathAnswers s p q S P Q
   path-answers =
-      let w = equal-paths-iff S (schema-well-formed (schema-facts s a)) P Q (is-path p b) (is-path q c) in
-      let n = false-iff (equal S P Q) w in
+      let n = false-iff (equal S P Q) equal-iff in
       record {
-        yes = (λ h. w .0 (accepted-same (sym path-yields ∙ h)), λ h. path-yields ∙ ap accepted (w .1 h));
+        yes = (λ h. equal-iff .0 (accepted-same (sym path-yields ∙ h)), λ h. path-yields ∙ ap accepted (equal-iff .1 h));
         no = (λ h. n .0 (accepted-same (sym path-yields ∙ h)), λ h. path-yields ∙ ap accepted (n .1 h));
       }
+
+  -- ---- the chain between two paths
+
+  explained-by : {x : Option (List Step)} → firstChain S P Q ≡ x → pathChain s p q ≡ accepted (explanation x)
+  explained-by e = rw (a, b, c, e)
+
+  none-iff : (pathChain s p q ≡ accepted []) ↔ (EqualPaths S P Q → ⊥)
+  none-iff =
+      let h = chain-none-iff S formed P Q (is-path p b) in
+      (λ e. h .0 (no-steps (firstChain S P Q) (accepted-same (sym (explained-by refl) ∙ e))), λ n. explained-by (h .1 n))
+
+  found : EqualPaths S P Q → (k : List Step) × (pathChain s p q ≡ accepted (chainSheet k)) × IsFirstChain S P Q k × (onSheet readChain (chainSheet k) ≡ sound k)
+  found r =
+      let f = schema-facts s a in
+      let h = is-path p b in
+      let k = chain-some S formed P Q h r in
+      let first = first-chain S formed P Q (k .0) h (leb-true (pathCount (S .graph)) maxPaths (f .few-paths)) (k .1) in
+      (k .0, explained-by (k .1), first, chain-read (k .0) (first .few) (first-chain-fits S formed P Q (k .0) h (f .equations) (f .nodes) (k .1)))
+
+  left-alone : pathChain s p q ≡ accepted [] → (tray : List ℕ) → inTray tray (pathChain s p q) ≡ record { answer = accepted 0; tray = tray }
+  left-alone e tray = rw (e, le-leb 0 (length tray) (omega arith))
+
+  pub chain-answers : ChainAnswers s p q S P Q
+  chain-answers = record {
+    none = none-iff;
+    zero = λ tray. (
+      λ e r. let k = found r in
+          let t = accepted-tray tray (pathChain s p q) e in
+          some-byte (k .0) (ap length (accepted-same (sym (k .1) ∙ t .result)) ∙ t .size),
+      λ n. ap (λ (l : Lent). l .answer) (left-alone (none-iff .1 n) tray),
+    );
+    untouched = left-alone;
+    apart = λ h. none-iff .1 (false-iff (equal S P Q) equal-iff .0 (unequal S formed P Q (is-path p b) (is-path q c) h));
+    chain = found;
+  }

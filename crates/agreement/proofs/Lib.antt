@@ -2,6 +2,8 @@
 pub mod Paths
 pub mod Loops
 pub mod Steps
+pub mod Distances
+pub mod FirstChains
 pub mod Classes
 pub mod Instances
 pub mod Sheets

@@ -9,19 +9,22 @@ use lib.Seq.{take-at, getD-append-add, getD-drop}
 use lib.Dec.{leb}
 use borrow.Author.Tests.{leb-true}
 use Rattle.meaning.specs.Lists.{sumOf}
+use Rattle.meaning.specs.Schema.{Path, Schema}
+use Rattle.meaning.specs.PathChain.{firstChain}
 use Rattle.meaning.specs.PathEquality.{equal}
 use Rattle.meaning.specs.Formats.{Instance, maxRows, instanceSheet}
+use Rattle.meaning.specs.Judge.{judgePath, judgeSchema}
 use Rattle.meaning.specs.Delta.{delta}
 use Rattle.meaning.specs.Evenness.{even}
 use Rattle.meaning.specs.Sigma.{sigma}
 use Rattle.meaning.specs.Pi.{isBijective, hasFewComponents, pi}
-use Rattle.meaning.specs.Calls.{Outcome, refused, accepted, _>>=_, ensureFits, checkSchema, migration, checkMapping, checkInstance, samePath, Migrated, deltaTables, sigmaTables, piTables, sheetOf, Sides, sides, judgePushed, judgeRaw, checkPushed, checkRaw, pushedToRaw, rawToPushed, Lent, written, inTray, pushedSheet, rawSheet}
+use Rattle.meaning.specs.Calls.{Outcome, refused, accepted, _>>=_, at, ensureFits, checkSchema, migration, checkMapping, checkInstance, samePath, explanation, pathChain, Migrated, deltaTables, sigmaTables, piTables, sheetOf, Sides, sides, judgePushed, judgeRaw, checkPushed, checkRaw, pushedToRaw, rawToPushed, Lent, written, inTray, pushedSheet, rawSheet}
 use Rattle.agreement.specs.Tests.{Refusal, Tests, done, test, Decides, holds}
 use Rattle.agreement.proofs.Tests.{refused-not-accepted, accepted-same, decides-then, decides-ensure, decides-as, decides-giving}
 use Rattle.agreement.proofs.Refusals.{schema-decided, path-decided, mapping-decided, instance-decided, matching-decided}
-use Rattle.agreement.specs.CallTests.{Result, sheetTests, trayTests, rawTests, pushedTests, sidesTests, piTests, sigmaTests, deltaTests, fitsTests, samePathTests, checkInstanceTests, checkMappingTests, migrationTests, checkSchemaTests}
+use Rattle.agreement.specs.CallTests.{Result, sheetTests, trayTests, rawTests, pushedTests, sidesTests, piTests, sigmaTests, deltaTests, fitsTests, pathChainTests, samePathTests, pathsTests, checkInstanceTests, checkMappingTests, migrationTests, checkSchemaTests}
 
--- ---- checks and the path question
+-- ---- checks, the path question and the chain between two paths
 
 pub checkSchema-decided : (s : List ℕ) → Decides (checkSchemaTests s) (checkSchema s)
 checkSchema-decided s = decides-giving (schema-decided 1 s) (λ S. tt)
@@ -38,9 +41,16 @@ checkMapping-decided s t f = decides-giving (migration-decided s t f) (λ m. tt)
 pub checkInstance-decided : (s i : List ℕ) → Decides (checkInstanceTests s i) (checkInstance s i)
 checkInstance-decided s i = decides-then (schema-decided 1 s) (λ S. decides-giving (instance-decided 2 S i) (λ I. tt))
 
-pub samePath-decided : (s p q : List ℕ) → Decides (samePathTests s p q) (samePath s p q)
-samePath-decided s p q =
-    decides-then (schema-decided 1 s) (λ S. decides-then (path-decided 2 (S .graph) p) (λ P. decides-giving (path-decided 3 (S .graph) q) (λ Q. equal S P Q)))
+module _ (s p q : List ℕ) where
+  paths-decided : {A : Type 0} (g : Schema → Path → Path → A)
+      → Decides (pathsTests s p q g) (at 1 (judgeSchema s) >>= λ S. at 2 (judgePath (S .graph) p) >>= λ P. at 3 (judgePath (S .graph) q) >>= λ Q. accepted (g S P Q))
+  paths-decided g = decides-then (schema-decided 1 s) (λ S. decides-then (path-decided 2 (S .graph) p) (λ P. decides-giving (path-decided 3 (S .graph) q) (g S P)))
+
+  pub samePath-decided : Decides (samePathTests s p q) (samePath s p q)
+  samePath-decided = paths-decided equal
+
+  pub pathChain-decided : Decides (pathChainTests s p q) (pathChain s p q)
+  pathChain-decided = paths-decided (λ S P Q. explanation (firstChain S P Q))
 
 -- ---- migrations
 
@@ -130,6 +140,9 @@ module _ (tray : List ℕ) where
 
   pub pi-answer : (s t f i : List ℕ) → Decides (sheetTests tray (piTests s t f i)) (inTray tray (sheetOf (piTables s t f i)) .answer)
   pi-answer s t f i = sheet-decided (pi-decided s t f i)
+
+  pub pathChain-answer : (s p q : List ℕ) → Decides (trayTests tray (pathChainTests s p q)) (inTray tray (pathChain s p q) .answer)
+  pathChain-answer s p q = tray-decided (pathChain-decided s p q)
 
   pub pushedToRaw-answer : (s t f i j k : List ℕ) → Decides (trayTests tray (pushedTests s t f i j k rawSheet)) (inTray tray (pushedToRaw s t f i j k) .answer)
   pushedToRaw-answer s t f i j k = tray-decided (pushedToRaw-decided s t f i j k)

@@ -7,17 +7,19 @@ use mathlib.Core.List.{List, [], _∷_, _++_}
 use lib.ListN.{length, getD, take}
 use lib.Dec.{leb}
 use Rattle.meaning.specs.Lists.{sumOf}
+use Rattle.meaning.specs.Schema.{Path, Schema}
+use Rattle.meaning.specs.PathChain.{firstChain}
 use Rattle.meaning.specs.PathEquality.{equal}
 use Rattle.meaning.specs.Formats.{Instance, maxRows, instanceSheet}
 use Rattle.meaning.specs.Delta.{delta}
 use Rattle.meaning.specs.Evenness.{even}
 use Rattle.meaning.specs.Sigma.{sigma}
 use Rattle.meaning.specs.Pi.{isBijective, hasFewComponents, pi}
-use Rattle.meaning.specs.Calls.{Outcome, accepted, Migration, Migrated, Sides, inTray}
+use Rattle.meaning.specs.Calls.{Outcome, accepted, explanation, Migration, Migrated, Sides, inTray}
 use Rattle.agreement.specs.Tests.{Refusal, Tests, done, test, then, giving, holds}
 use Rattle.agreement.specs.SheetTests.{placed, schemaNumbers, schemaTests, pathNumbers, pathTests, mappingNumbers, mappingTests, instanceNumbers, instanceTests, matchingNumbers, matchingTests}
 
--- ---- checks and the path question
+-- ---- checks, the path question and the chain between two paths
 
 abbrev pub checkSchemaTests : List ℕ → Tests (Unit {0}) (placed 1 schemaNumbers)
 checkSchemaTests s = giving (schemaTests 1 s) (λ S. tt)
@@ -37,8 +39,18 @@ checkMappingTests s t f = giving (migrationTests s t f) (λ m. tt)
 abbrev pub checkInstanceTests : List ℕ → List ℕ → Tests (Unit {0}) (placed 1 schemaNumbers ++ placed 2 instanceNumbers)
 checkInstanceTests s i = then (schemaTests 1 s) (λ S. giving (instanceTests 2 S i) (λ I. tt))
 
-abbrev pub samePathTests : List ℕ → List ℕ → List ℕ → Tests Bool (placed 1 schemaNumbers ++ placed 2 pathNumbers ++ placed 3 pathNumbers)
-samePathTests s p q = then (schemaTests 1 s) (λ S. then (pathTests 2 (S .graph) p) (λ P. giving (pathTests 3 (S .graph) q) (λ Q. equal S P Q)))
+abbrev pub pathRefusals : List Refusal
+pathRefusals = placed 1 schemaNumbers ++ placed 2 pathNumbers ++ placed 3 pathNumbers
+
+-- what is made of a schema and two of its paths
+abbrev pub pathsTests : {A : Type 0} → List ℕ → List ℕ → List ℕ → (Schema → Path → Path → A) → Tests A pathRefusals
+pathsTests s p q g = then (schemaTests 1 s) (λ S. then (pathTests 2 (S .graph) p) (λ P. giving (pathTests 3 (S .graph) q) (g S P)))
+
+abbrev pub samePathTests : List ℕ → List ℕ → List ℕ → Tests Bool pathRefusals
+samePathTests s p q = pathsTests s p q equal
+
+abbrev pub pathChainTests : List ℕ → List ℕ → List ℕ → Tests (List ℕ) pathRefusals
+pathChainTests s p q = pathsTests s p q (λ S P Q. explanation (firstChain S P Q))
 
 -- ---- migrations
 

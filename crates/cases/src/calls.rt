@@ -5,6 +5,7 @@ use migration::exports::migration_check_pushed;
 use migration::exports::migration_check_raw;
 use migration::exports::migration_check_schema;
 use migration::exports::migration_delta;
+use migration::exports::migration_path_chain;
 use migration::exports::migration_pi;
 use migration::exports::migration_pushed_to_raw;
 use migration::exports::migration_raw_to_pushed;
@@ -30,6 +31,9 @@ fn written<'a>(
     }
     if call == 6 {
         return migration_pi(s, t, f, i, &mut *tray);
+    }
+    if call == 11 {
+        return migration_path_chain(s, t, f, &mut *tray);
     }
     if call == 9 {
         return migration_pushed_to_raw(s, t, f, i, j, k, &mut *tray);

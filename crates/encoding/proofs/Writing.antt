@@ -1,7 +1,7 @@
--- Laws of writing: fields of one width one by one, columns one by one, and the whole sheet.
+-- Laws of writing: fields of one width one by one, columns one by one, and whole sheets.
 use Prim.Native.Nat.{ℕ, zero, suc, _+_, _*_}
 use mathlib.Core.Path.{_≡_, refl, sym, ap, ap₂, _∙_}
-use mathlib.Core.List.{List, [], _∷_, _++_, map-append, append-nil}
+use mathlib.Core.List.{List, [], _∷_, _++_, map, map-append, append-nil}
 use native.Mathlib.Omega.{arith}
 use native.Mathlib.Nat.{mul-suc, mul-zero, mul-add, zero-add}
 use native.Mathlib.Numerals.{add-one}
@@ -12,10 +12,12 @@ use Rattle.bits.specs.Put.{put, putAll}
 use Rattle.bits.proofs.Writing.{putAll-append}
 use Rattle.bits.proofs.Packing.{length-pack, totalWidth-append, putAll-pack}
 use Rattle.theory.specs.Numbering.{tabulate}
+use Rattle.theory.proofs.Numbering.{tabulate-length}
 use Rattle.meaning.specs.Lists.{concatMap}
-use Rattle.meaning.specs.Formats.{fieldsOf, instanceSheet, matchingSheet}
+use Rattle.meaning.specs.Formats.{fieldsOf, instanceSheet, matchingSheet, chainSheet}
 use Rattle.meaning.proofs.Tabulate.{tabulate-more, tabulate-same}
 use Rattle.meaning.proofs.PathLevels.{concatMap-append}
+use Rattle.meaning.proofs.StepNumbers.{stepOf, chain-packed}
 use Rattle.schema.specs.declared.Schema.{Schema}
 use Rattle.schema.specs.Decoded.{frontOf}
 use Rattle.instance.specs.declared.Instance.{Instance}
@@ -130,14 +132,32 @@ module _ (t : Schema) (i : Instance) (links values : List ℕ) where
 
 -- ---- a matching's sheet
 module _ (l : List ℕ) (n : ℕ) where
-  partners-same : frontOf n l ≡ columnOf l 0 n
-  partners-same = tabulate-same n (λ c h. ap (λ (k : ℕ). getD l k 0) (sym (zero-add c)))
+  front-same : frontOf n l ≡ columnOf l 0 n
+  front-same = tabulate-same n (λ c h. ap (λ (k : ℕ). getD l k 0) (sym (zero-add c)))
 
   partners-width : totalWidth (fieldsOf 9 (columnOf l 0 n)) ≡ 9 * n
   partners-width = fields-width 9 n (λ r. getD l (0 + r) 0)
 
   pub matching-length : length (matchingSheet (frontOf n l)) ≡ bytesFor (9 * n)
-  matching-length = ap (λ (x : List ℕ). length (matchingSheet x)) partners-same ∙ length-pack (fieldsOf 9 (columnOf l 0 n)) ∙ ap bytesFor partners-width
+  matching-length = ap (λ (x : List ℕ). length (matchingSheet x)) front-same ∙ length-pack (fieldsOf 9 (columnOf l 0 n)) ∙ ap bytesFor partners-width
 
   pub matching-written : (tray : List ℕ) {m : ℕ} {a b : List ℕ} → m ≡ bytesFor (9 * n) → a ≡ replicate m 0 ++ drop m tray → b ≡ putAll a 0 (fieldsOf 9 (columnOf l 0 n)) → Written (matchingSheet (frontOf n l)) tray m b
-  matching-written tray {m} {a} {b} e ea eb = rw partners-same (packed (fieldsOf 9 (columnOf l 0 n)) tray b (e ∙ ap bytesFor (sym partners-width)) (eb ∙ rw ea))
+  matching-written tray {m} {a} {b} e ea eb = rw front-same (packed (fieldsOf 9 (columnOf l 0 n)) tray b (e ∙ ap bytesFor (sym partners-width)) (eb ∙ rw ea))
+
+-- ---- a chain's sheet: the number of steps, and each step as one number
+module _ (l : List ℕ) (n : ℕ) where
+  abbrev chainFields : List (ℕ × ℕ)
+  chainFields = (8, n) ∷ fieldsOf 10 (columnOf l 0 n)
+
+  chain-is : chainSheet (map stepOf (frontOf n l)) ≡ pack chainFields
+  chain-is =
+      ap (λ (x : List ℕ). chainSheet (map stepOf x)) (front-same l n)
+      ∙ sym (chain-packed (columnOf l 0 n))
+      ∙ ap (λ (k : ℕ). pack ((8, k) ∷ fieldsOf 10 (columnOf l 0 n))) (tabulate-length n (λ r. getD l (0 + r) 0))
+
+  pub chain-written : (tray : List ℕ) {m : ℕ} {a b d : List ℕ} → m ≡ bytesFor (8 + 10 * n) → a ≡ replicate m 0 ++ drop m tray → b ≡ putAll a 0 (fieldsOf 8 (n ∷ []))
+      → d ≡ putAll b 8 (fieldsOf 10 (columnOf l 0 n)) → Written (chainSheet (map stepOf (frontOf n l))) tray m d
+  unfolding putAll totalWidth
+  chain-written tray {m} {a} {b} {d} e ea eb ed =
+      let w : totalWidth chainFields ≡ 8 + 10 * n = ap (λ (k : ℕ). 8 + k) (fields-width 10 n (λ r. getD l (0 + r) 0)) in
+      rw chain-is (packed chainFields tray d (e ∙ ap bytesFor (sym w)) (ed ∙ rw (eb, ea)))

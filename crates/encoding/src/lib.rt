@@ -1,4 +1,5 @@
-// How an instance is written into a lent tray, field after field; and matching sheets.
+// How an instance is written into a lent tray, field after field; and matching and chain sheets.
+pub mod chains;
 pub mod matching;
 
 use instance::Instance;

@@ -1,13 +1,11 @@
 -- The edges that a table of paths gives for a path, taken from the last back to the first, are the path's.
 use Prim.Native.Nat.{ℕ, zero, suc, _+_, _-_, _≤_, _<_}
 use mathlib.Core.Path.{_≡_, refl, sym, ap, ap₂, _∙_}
-use mathlib.Core.Bool.{Bool, true, false}
+use mathlib.Core.Bool.{false}
 use mathlib.Core.List.{List, [], _∷_, _++_, append-assoc, append-nil}
 use native.Mathlib.Omega.{arith}
 use lib.ListN.{length, getD, set, length-append, length-set}
 use lib.Seq.{getD-set-same, getD-set-other}
-use lib.Dec.{ltb}
-use borrow.Author.Tests.{ltb-true, ltb-false}
 use Rattle.theory.specs.Numbering.{tabulate}
 use Rattle.meaning.specs.Schema.{Graph, Path, hasLoop}
 use Rattle.meaning.proofs.Tabulate.{tabulate-same}
@@ -15,7 +13,7 @@ use Rattle.agreement.specs.Paths.{pathCount, pathAt}
 use Rattle.paths.specs.declared.Paths.{Paths}
 use Rattle.paths.specs.Table.{IsTable}
 use Rattle.paths.specs.PathNumbers.{lengthOf, parentOf, lastOf}
-use Rattle.paths.proofs.PathNumbers.{trivial-at}
+use Rattle.paths.proofs.PathNumbers.{not-trivial}
 use Rattle.paths.proofs.PathParents.{parents}
 use Rattle.mapping.specs.PathEdges.{edgesBack, pathEdges}
 
@@ -84,20 +82,11 @@ no-edges [] e = refl
 no-edges (x ∷ l) e = absurd (omega arith)
 
 module _ (G : Graph) (acyclic : hasLoop G ≡ false) where
-  not-trivial : (i n : ℕ) → lengthOf G i ≡ suc n → G .nodes ≤ i
-  not-trivial i n e = go (ltb i (G .nodes)) refl
-    where
-      go : (b : Bool) → ltb i (G .nodes) ≡ b → G .nodes ≤ i
-      go true q =
-          let z : lengthOf G i ≡ 0 = ap (λ (q : Path). length (q .edges)) (trivial-at G acyclic i (ltb-true i (G .nodes) q)) in
-          absurd (omega (arith, z, e))
-      go false q = ltb-false i (G .nodes) q
-
   module _ (last parent : List ℕ) (L : (i : ℕ) → i < pathCount G → getD last i 0 ≡ lastOf G i) (P : (i : ℕ) → i < pathCount G → getD parent i 0 ≡ parentOf G i) where
     edges-back : (n i : ℕ) → i < pathCount G → lengthOf G i ≡ n → edgesBack last parent i n ≡ pathAt G i .edges
     edges-back zero i h e = no-edges (pathAt G i .edges) e
     edges-back (suc n) i h e =
-        let f = parents G acyclic i (not-trivial i n e) h in
+        let f = parents G acyclic i (not-trivial G acyclic i n e) h in
         let a : pathAt G i .edges ≡ pathAt G (parentOf G i) .edges ++ (lastOf G i ∷ []) = ap (λ (q : Path). q .edges) (f .is) in
         let z : lengthOf G i ≡ length (pathAt G (parentOf G i) .edges ++ (lastOf G i ∷ [])) = ap (λ (l : List ℕ). length l) a in
         let y = length-append (pathAt G (parentOf G i) .edges) (lastOf G i ∷ []) in

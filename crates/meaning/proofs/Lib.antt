@@ -9,11 +9,13 @@ pub mod Written
 pub mod Heights
 pub mod PathLevels
 pub mod PathCounts
+pub mod StepNumbers
 pub mod Matchings
 pub mod Examples
 pub mod MatchingCase
 pub mod RunCases
 pub mod PathCases
+pub mod ChainCases
 pub mod TailCase
 pub mod Cases
 pub mod MoreCases

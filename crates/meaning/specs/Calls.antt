@@ -2,15 +2,17 @@
 -- at place 0, then the matching sheet, last 16 (document 01, 'Why a sheet is sent back').
 use Prim.Native.Nat.{ℕ}
 use mathlib.Core.Bool.{Bool, true, false, cond}
-use mathlib.Core.List.{List, _++_}
+use mathlib.Core.List.{List, [], _++_}
+use mathlib.Core.Option.{Option, none, some}
 use lib.ListN.{length, drop}
 use lib.Dec.{leb}
 use Rattle.theory.specs.Transposition.{toRaw, toPushed}
 use Rattle.meaning.specs.Lists.{sumOf}
 use Rattle.meaning.specs.Schema.{Schema}
+use Rattle.meaning.specs.PathChain.{Step, firstChain}
 use Rattle.meaning.specs.PathEquality.{equal}
 use Rattle.meaning.specs.Sheet.{Judged, faulty, sound}
-use Rattle.meaning.specs.Formats.{Mapping, Instance, maxRows, instanceSheet, matchingSheet}
+use Rattle.meaning.specs.Formats.{Mapping, Instance, maxRows, instanceSheet, matchingSheet, chainSheet}
 use Rattle.meaning.specs.Views.{mappingOf, instanceOf}
 use Rattle.meaning.specs.Judge.{judgePath, judgeSchema, judgeMapping, judgeInstance}
 use Rattle.meaning.specs.Delta.{delta}
@@ -84,6 +86,20 @@ samePath s p q = do
   P ← at 2 (judgePath (S .graph) p)
   Q ← at 3 (judgePath (S .graph) q)
   accepted (equal S P Q)
+
+-- ---- the chain from one path to another (document 02, C-11)
+
+-- none is written as no bytes, for which any tray has room
+abbrev pub explanation : Option (List Step) → List ℕ
+explanation none = []
+explanation (some c) = chainSheet c
+
+abbrev pub pathChain : List ℕ → List ℕ → List ℕ → Outcome (List ℕ)
+pathChain s p q = do
+  S ← at 1 (judgeSchema s)
+  P ← at 2 (judgePath (S .graph) p)
+  Q ← at 3 (judgePath (S .graph) q)
+  accepted (explanation (firstChain S P Q))
 
 -- ---- migrations: a migrated instance, with its schema
 

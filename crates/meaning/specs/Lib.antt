@@ -1,6 +1,7 @@
--- Document 01 as definitions, in its own order.
+-- Documents 01 and 02 as definitions, in the order of document 01; what document 02 adds is marked with its request.
 pub mod Lists
 pub mod Schema
+pub mod PathChain
 pub mod PathEquality
 pub mod Sheet
 pub mod Formats

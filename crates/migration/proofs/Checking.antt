@@ -1,21 +1,21 @@
--- What judged sheets say together: the meanings of the checks, of the path question and of a mapping with its schemas.
+-- What judged sheets say together: the meanings of the checks, of the calls on two paths and of a mapping with its schemas.
 use Prim.Native.Nat.{ℕ}
 use mathlib.Core.Path.{_≡_}
 use mathlib.Core.List.{List}
-use Rattle.meaning.specs.PathEquality.{equal}
+use Rattle.meaning.specs.Schema as meaning
 use Rattle.meaning.specs.Judge.{judgeSchema, judgePath, judgeMapping, judgeInstance}
-use Rattle.meaning.specs.Calls.{accepted, _>>=_, at, Migration, checkSchema, migration, checkInstance, samePath}
+use Rattle.meaning.specs.Calls.{accepted, _>>=_, at, Migration, checkSchema, migration, checkInstance}
 use Rattle.schema.specs.declared.Schema.{Schema}
 use Rattle.schema.specs.declared.JudgedPath.{JudgedPath}
 use Rattle.schema.specs.Decoded.{graphOf, pathOf, schemaOf, judgedSchema}
-use Rattle.schema.specs.Judged.{judgedPath}
+use Rattle.schema.specs.Judged.{SoundPath, PathSays}
 use Rattle.instance.specs.declared.Instance.{Instance}
 use Rattle.instance.specs.Decoded.{tablesOf, judgedInstance}
 use Rattle.mapping.specs.declared.Mapping.{Mapping}
 use Rattle.mapping.specs.Decoded.{mappingOf, judgedMapping}
 use Rattle.migration.specs.declared.Refusal.{Refusal}
-use Rattle.migration.specs.Answers.{checkedSheet, orNext, outcomeOf}
-use Rattle.migration.proofs.Refusing.{refusal, judged-at, then, yields, or-assoc}
+use Rattle.migration.specs.Answers.{checkedSheet, orNext, firstRefusal, outcomeOf}
+use Rattle.migration.proofs.Refusing.{refusal, judged-at, then, yields, or-assoc, none-first, none-next}
 
 pub sheet-checked : (t : Schema) (i : Instance) (links values e : List ℕ) → judgedInstance t i links values ≡ judgeInstance (schemaOf t) e → outcomeOf (refusal (i .fault) 2) tt ≡ checkedSheet (schemaOf t) e
 sheet-checked t i links values e I = yields (refusal (i .fault) 2) (tablesOf t i links values) (judged-at (i .fault) 2 (tablesOf t i links values) I) (λ _. tt)
@@ -30,19 +30,30 @@ module _ (t : Schema) (s : List ℕ) (S : judgedSchema t ≡ judgeSchema s) wher
   pub instance-checked : (r : Refusal) (e : List ℕ) → outcomeOf r tt ≡ checkedSheet (schemaOf t) e → outcomeOf (orNext (refusal (t .fault) 1) r) tt ≡ checkInstance s e
   instance-checked r e h = then (refusal (t .fault) 1) (schemaOf t) schema-at r tt (λ S. checkedSheet S e) h
 
-  pub paths-compared : (a b : JudgedPath) (p q : List ℕ) → judgedPath a ≡ judgePath (graphOf (t .graph)) p → judgedPath b ≡ judgePath (graphOf (t .graph)) q
-      → outcomeOf (orNext (orNext (refusal (t .fault) 1) (refusal (a .fault) 2)) (refusal (b .fault) 3)) (equal (schemaOf t) (pathOf (a .path)) (pathOf (b .path))) ≡ samePath s p q
-  paths-compared a b p q P Q =
-      let answer = equal (schemaOf t) (pathOf (a .path)) (pathOf (b .path)) in
-      rw (or-assoc (refusal (t .fault) 1) (refusal (a .fault) 2) (refusal (b .fault) 3)) (
-      then (refusal (t .fault) 1) (schemaOf t) schema-at (orNext (refusal (a .fault) 2) (refusal (b .fault) 3)) answer (λ S. do
-        P ← at 2 (judgePath (S .graph) p)
-        Q ← at 3 (judgePath (S .graph) q)
-        accepted (equal S P Q))
-      (then (refusal (a .fault) 2) (pathOf (a .path)) (judged-at (a .fault) 2 (pathOf (a .path)) P) (refusal (b .fault) 3) answer (λ P. do
-        Q ← at 3 (judgePath (graphOf (t .graph)) q)
-        accepted (equal (schemaOf t) P Q))
-      (yields (refusal (b .fault) 3) (pathOf (b .path)) (judged-at (b .fault) 3 (pathOf (b .path)) Q) (λ Q. equal (schemaOf t) (pathOf (a .path)) Q))))
+  -- a schema and two of its paths, and what is made of them
+  module _ (a b : JudgedPath) (p q : List ℕ) (P : PathSays (graphOf (t .graph)) a (judgePath (graphOf (t .graph)) p)) (Q : PathSays (graphOf (t .graph)) b (judgePath (graphOf (t .graph)) q)) where
+    pub paths-judged : {A : Type 0} (g : meaning.Schema → meaning.Path → meaning.Path → A)
+        → outcomeOf (firstRefusal (t .fault) (a .fault) (b .fault)) (g (schemaOf t) (pathOf (a .path)) (pathOf (b .path)))
+        ≡ (at 1 (judgeSchema s) >>= λ S. at 2 (judgePath (S .graph) p) >>= λ P. at 3 (judgePath (S .graph) q) >>= λ Q. accepted (g S P Q))
+    paths-judged g =
+        let answer = g (schemaOf t) (pathOf (a .path)) (pathOf (b .path)) in
+        rw (or-assoc (refusal (t .fault) 1) (refusal (a .fault) 2) (refusal (b .fault) 3)) (
+        then (refusal (t .fault) 1) (schemaOf t) schema-at (orNext (refusal (a .fault) 2) (refusal (b .fault) 3)) answer (λ S. do
+          P ← at 2 (judgePath (S .graph) p)
+          Q ← at 3 (judgePath (S .graph) q)
+          accepted (g S P Q))
+        (then (refusal (a .fault) 2) (pathOf (a .path)) (judged-at (a .fault) 2 (pathOf (a .path)) (P .says)) (refusal (b .fault) 3) answer (λ P. do
+          Q ← at 3 (judgePath (graphOf (t .graph)) q)
+          accepted (g (schemaOf t) P Q))
+        (yields (refusal (b .fault) 3) (pathOf (b .path)) (judged-at (b .fault) 3 (pathOf (b .path)) (Q .says)) (g (schemaOf t) (pathOf (a .path))))))
+
+    -- where none is refused, both are paths
+    pub paths-sound : firstRefusal (t .fault) (a .fault) (b .fault) .number ≡ 0 → SoundPath (t .graph) (a .path) × SoundPath (t .graph) (b .path)
+    paths-sound e =
+        let two = orNext (refusal (t .fault) 1) (refusal (a .fault) 2) in (
+          record { short = P .short; path = P .path (none-next (refusal (t .fault) 1) (refusal (a .fault) 2) (none-first two (refusal (b .fault) 3) e)) },
+          record { short = Q .short; path = Q .path (none-next two (refusal (b .fault) 3) e) },
+        )
 
   pub mapping-opened : (u : Schema) (m : Mapping) (z f : List ℕ) → judgedSchema u ≡ judgeSchema z → judgedMapping t m ≡ judgeMapping (schemaOf t) (schemaOf u) f
       → outcomeOf (orNext (orNext (refusal (t .fault) 1) (refusal (u .fault) 2)) (refusal (m .fault) 3)) (record { S = schemaOf t; T = schemaOf u; F = mappingOf t m }) ≡ migration s z f

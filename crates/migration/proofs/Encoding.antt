@@ -1,9 +1,10 @@
 -- The number that an export gives, taken apart, is the call's outcome: refusals are numbered below 256, and results are below 2^32.
 use Prim.Native.Nat.{ℕ, _+_, _*_, _/_, _%_, _<_, _≤_}
-use mathlib.Core.Path.{_≡_, refl}
+use mathlib.Core.Path.{_≡_, refl, sym, ap, _∙_}
 use mathlib.Core.Bool.{Bool, true, false, cond, _&&_}
-use mathlib.Core.List.{List}
+use mathlib.Core.List.{List, []}
 use native.Mathlib.Omega.{arith}
+use native.Mathlib.Decide.{decLt}
 use lib.ListN.{length}
 use lib.Dec.{ltb}
 use borrow.Author.Tests.{ltb-true, lt-ltb, le-ltb}
@@ -11,20 +12,23 @@ use Rattle.theory.specs.Matching.{partner, partners}
 use Rattle.theory.specs.Transposition.{raw, pushed}
 use Rattle.theory.proofs.Matching.{partners-length}
 use Rattle.meaning.specs.Lists.{all}
-use Rattle.meaning.specs.Schema.{Schema}
+use Rattle.meaning.specs.Schema.{Path, Schema}
 use Rattle.meaning.specs.Sheet.{sound}
 use Rattle.meaning.specs.Formats.{Instance, maxInstanceBytes, instanceSheet, matchingSheet}
 use Rattle.meaning.specs.Views.{schemaOf, mappingOf, instanceOf}
-use Rattle.meaning.specs.Judge.{judgeSchema}
-use Rattle.meaning.specs.Calls.{Outcome, refused, accepted, _>>=_, Migrated, deltaTables, sigmaTables, piTables, sheetOf, Sides, sides, judgePushed, judgeRaw, pushedToRaw, rawToPushed, inTray, rawSheet, pushedSheet}
+use Rattle.meaning.specs.Judge.{judgePath, judgeSchema}
+use Rattle.meaning.specs.Calls.{Outcome, refused, accepted, _>>=_, pathChain, Migrated, deltaTables, sigmaTables, piTables, sheetOf, Sides, sides, judgePushed, judgeRaw, pushedToRaw, rawToPushed, inTray, rawSheet, pushedSheet}
 use Rattle.meaning.proofs.Lists.{all-of}
 use Rattle.meaning.proofs.Tabulate.{and-both}
 use Rattle.meaning.proofs.Facts.{schema-facts}
-use Rattle.meaning.proofs.Written.{instance-bytes, matching-sheet-length}
+use Rattle.meaning.proofs.Written.{instance-bytes, matching-sheet-length, chain-sheet-length}
+use Rattle.agreement.specs.Paths.{EqualPaths}
+use Rattle.agreement.specs.PathChains.{ChainAnswers}
 use Rattle.agreement.specs.Tests.{Refusal, Tests, Decides}
 use Rattle.agreement.proofs.Tests.{accepted-same, decides-giving, refused-in}
-use Rattle.agreement.proofs.Outcomes.{checkSchema-decided, checkMapping-decided, checkInstance-decided, samePath-decided, checkPushed-decided, checkRaw-decided, delta-answer, sigma-answer, pi-answer, pushedToRaw-answer, rawToPushed-answer, accepted-tray}
-use Rattle.agreement.proofs.Accepted.{bind-accepted, SidesSound, sides-accepted}
+use Rattle.agreement.proofs.Outcomes.{checkSchema-decided, checkMapping-decided, checkInstance-decided, samePath-decided, checkPushed-decided, checkRaw-decided, pathChain-answer, delta-answer, sigma-answer, pi-answer, pushedToRaw-answer, rawToPushed-answer, accepted-tray}
+use Rattle.agreement.proofs.Accepted.{bind-accepted, sheet-accepted, SidesSound, sides-accepted}
+use Rattle.agreement.proofs.AcceptedSheets.{chain-answers}
 use Rattle.agreement.proofs.Tables.{rows-sum}
 use Rattle.agreement.specs.Valid.{ValidInstance}
 use Rattle.agreement.proofs.Valid.{mapping-valid, instance-valid}
@@ -32,7 +36,7 @@ use Rattle.agreement.proofs.Evenness.{even-iff}
 use Rattle.agreement.proofs.Sigma.{sigma-valid}
 use Rattle.agreement.specs.Agrees.{Lendable}
 use Rattle.agreement.proofs.Agrees.{delta-agrees, sigma-agrees, pi-agrees}
-use Rattle.migration.specs.Encoding.{Says, ExportsSay, maxMatchingBytes, Within, ResultsWithin}
+use Rattle.migration.specs.Encoding.{Says, ExportsSay, maxMatchingBytes, maxChainBytes, Within, ResultsWithin}
 
 -- ---- byte lengths
 
@@ -81,8 +85,34 @@ module _ (s t f i j : List ℕ) where
       let k : sheet (a .0) (b .0) ≡ bytes = accepted-same (b .2) in
       rw k at (h (a .0) (sides-accepted s t f i j (a .1)) (b .0))
 
+-- the sheet of a chain
+module _ {s p q : List ℕ} {S : Schema} {P Q : Path} (x : ChainAnswers s p q S P Q) where
+  answer-within : Within maxChainBytes (pathChain s p q)
+  answer-within bytes e = go (decLt maxChainBytes (length bytes))
+    where
+      bound : (n b : ℕ) → b ≡ (8 + 10 * n + 7) / 8 → n ≤ 255 → b ≤ 320
+      bound n b e h = omega arith
+
+      short : EqualPaths S P Q → length bytes ≤ maxChainBytes
+      short r = let c = x .chain r in bound (length (c .0)) (length bytes) (ap length (accepted-same (sym e ∙ c .1)) ∙ chain-sheet-length (c .0)) (c .2 .few)
+
+      go : Dec (maxChainBytes < length bytes) → length bytes ≤ maxChainBytes
+      go (yes h) =
+          let none : bytes ≡ [] = accepted-same (sym e ∙ x .none .1 (λ r. let l = short r in omega arith)) in
+          let l = ap length none in
+          omega arith
+      go (no h) = omega arith
+
+chain-within : (s p q : List ℕ) → Within maxChainBytes (pathChain s p q)
+chain-within s p q bytes e =
+    let a = sheet-accepted 1 (judgeSchema s) _ e in
+    let b = sheet-accepted 2 (judgePath (a .0 .graph) p) _ (a .2) in
+    let c = sheet-accepted 3 (judgePath (a .0 .graph) q) _ (b .2) in
+    answer-within (chain-answers s p q (a .1) (b .1) (c .1)) bytes e
+
 pub results-within : ResultsWithin
 results-within = record {
+  path-chain = chain-within;
   delta = λ s t f j. sheet-within (λ M e. let a = delta-agrees s t f j e in lendable-within s (a .inputs .S-accepted) (a .lendable));
   sigma = λ s t f i. sheet-within (λ M e. let a = sigma-agrees s t f i e in lendable-within t (a .inputs .T-accepted) (a .lendable));
   pi = λ s t f i. sheet-within (λ M e. let a = pi-agrees s t f i e in lendable-within t (a .inputs .T-accepted) (a .lendable));
@@ -135,6 +165,7 @@ exports-say = record {
   check-mapping = λ s t f. says-small (checkMapping-decided s t f) refl (λ _. 0) (λ _. omega arith);
   check-instance = λ s i. says-small (checkInstance-decided s i) refl (λ _. 0) (λ _. omega arith);
   same-path = λ s p q. says-small (samePath-decided s p q) refl (λ b. cond b 1 0) bit;
+  path-chain = λ s p q tray. says-bytes tray (pathChain s p q) maxChainBytes (pathChain-answer tray s p q) refl (results-within .path-chain s p q) (omega arith);
   delta = λ s t f j tray. says-bytes tray (sheetOf (deltaTables s t f j)) maxInstanceBytes (delta-answer tray s t f j) refl (results-within .delta s t f j) (omega arith);
   sigma = λ s t f i tray. says-bytes tray (sheetOf (sigmaTables s t f i)) maxInstanceBytes (sigma-answer tray s t f i) refl (results-within .sigma s t f i) (omega arith);
   pi = λ s t f i tray. says-bytes tray (sheetOf (piTables s t f i)) maxInstanceBytes (pi-answer tray s t f i) refl (results-within .pi s t f i) (omega arith);

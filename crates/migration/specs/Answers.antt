@@ -12,6 +12,8 @@ use Rattle.migration.specs.declared.Verdict.{Verdict}
 use Rattle.migration.specs.declared.Verdict.the-variants as verdict
 use Rattle.migration.specs.declared.Equality.{Equality}
 use Rattle.migration.specs.declared.Equality.the-variants as equality
+use Rattle.migration.specs.declared.Explained.{Explained}
+use Rattle.migration.specs.declared.Explained.the-variants as explain
 use Rattle.migration.specs.declared.Written.{Written}
 use Rattle.migration.specs.declared.Written.the-variants as written
 
@@ -27,6 +29,19 @@ equalityOf (equality.Refused r) = refused (r .number) (r .place)
 abbrev pub writtenOf : Written → Outcome ℕ
 writtenOf (written.Bytes n) = accepted n
 writtenOf (written.Refused r) = refused (r .number) (r .place)
+
+abbrev pub explainedOf : Explained → Outcome ℕ
+explainedOf (explain.Chain n) = accepted n
+explainedOf explain.Unequal = accepted 0
+explainedOf (explain.Refused r) = refused (r .number) (r .place)
+
+-- and back: no bytes are no chain
+abbrev pub explanationOf : Outcome ℕ → Explained
+explanationOf (accepted n) = cond (eqb n 0) explain.Unequal (explain.Chain n)
+explanationOf (refused n place) = explain.Refused (record { number = n; place = place })
+
+abbrev pub explained : Lent → Explained × List ℕ
+explained l = (explanationOf (l .answer), l .tray)
 
 -- an answer and the tray that it leaves
 abbrev pub lentOf : Written → List ℕ → Lent

@@ -7,7 +7,7 @@ use mathlib.Core.List.{List}
 use lib.ListN.{length}
 use lib.Dec.{ltb}
 use Rattle.meaning.specs.Formats.{maxInstanceBytes}
-use Rattle.meaning.specs.Calls.{Outcome, refused, accepted, checkSchema, checkMapping, checkInstance, samePath, deltaTables, sigmaTables, piTables, sheetOf, checkPushed, checkRaw, pushedToRaw, rawToPushed, inTray}
+use Rattle.meaning.specs.Calls.{Outcome, refused, accepted, checkSchema, checkMapping, checkInstance, samePath, pathChain, deltaTables, sigmaTables, piTables, sheetOf, checkPushed, checkRaw, pushedToRaw, rawToPushed, inTray}
 use Rattle.migration.specs.Answers.{encoded, checked, answered}
 
 -- below 2^32 a result; else the number in bits 8 to 15, the place in bits 0 to 7
@@ -22,6 +22,7 @@ pub record ExportsSay : Type 0 where
   pub check-mapping : (s t f : List ℕ) → Says (checked (checkMapping s t f))
   pub check-instance : (s i : List ℕ) → Says (checked (checkInstance s i))
   pub same-path : (s p q : List ℕ) → Says (answered (samePath s p q))
+  pub path-chain : (s p q tray : List ℕ) → Says (inTray tray (pathChain s p q) .answer)
   pub delta : (s t f j tray : List ℕ) → Says (inTray tray (sheetOf (deltaTables s t f j)) .answer)
   pub sigma : (s t f i tray : List ℕ) → Says (inTray tray (sheetOf (sigmaTables s t f i)) .answer)
   pub pi : (s t f i tray : List ℕ) → Says (inTray tray (sheetOf (piTables s t f i)) .answer)
@@ -36,11 +37,16 @@ pub record ExportsSay : Type 0 where
 abbrev pub maxMatchingBytes : ℕ
 maxMatchingBytes = 576
 
+-- 8 bits, and 255 steps of 10
+abbrev pub maxChainBytes : ℕ
+maxChainBytes = 320
+
 -- a result has at most n bytes
 abbrev pub Within : ℕ → Outcome (List ℕ) → Type 0
 Within n o = (bytes : List ℕ) → o ≡ accepted bytes → length bytes ≤ n
 
 pub record ResultsWithin : Type 0 where
+  pub path-chain : (s p q : List ℕ) → Within maxChainBytes (pathChain s p q)
   pub delta : (s t f j : List ℕ) → Within maxInstanceBytes (sheetOf (deltaTables s t f j))
   pub sigma : (s t f i : List ℕ) → Within maxInstanceBytes (sheetOf (sigmaTables s t f i))
   pub pi : (s t f i : List ℕ) → Within maxInstanceBytes (sheetOf (piTables s t f i))

@@ -1,6 +1,7 @@
 // The calls for C, a slice as its address and its length. An answer is one number: a result as itself (0 for an accepted check, 1 or 0 for
-// equal or unequal paths, a byte length), a refusal as 2^32 + 256 * number + place.
+// equal or unequal paths, a byte length, which is 0 where there is no chain), a refusal as 2^32 + 256 * number + place.
 use crate::Equality;
+use crate::Explained;
 use crate::Refusal;
 use crate::Verdict;
 use crate::Written;
@@ -10,14 +11,15 @@ use crate::checks::check_pushed;
 use crate::checks::check_raw;
 use crate::checks::check_schema;
 use crate::checks::same_path;
+use crate::explain::path_chain;
 use crate::joins::pi;
 use crate::migrate::delta;
 use crate::migrate::sigma;
 use crate::turnings::pushed_to_raw;
 use crate::turnings::raw_to_pushed;
 ghost use mathlib.Core.Path.{_≡_};
-ghost use Rattle.meaning.specs.Calls.{refused, checkSchema, checkMapping, checkInstance, samePath, deltaTables, sigmaTables, piTables, sheetOf, checkPushed, checkRaw, pushedToRaw, rawToPushed, inTray};
-ghost use Rattle.migration.specs.Answers.{verdictOf, equalityOf, writtenOf, encoded, checked, answered, returned};
+ghost use Rattle.meaning.specs.Calls.{refused, checkSchema, checkMapping, checkInstance, samePath, pathChain, deltaTables, sigmaTables, piTables, sheetOf, checkPushed, checkRaw, pushedToRaw, rawToPushed, inTray};
+ghost use Rattle.migration.specs.Answers.{verdictOf, equalityOf, explainedOf, writtenOf, encoded, checked, answered, returned};
 
 // A refusal as a number.
 fn refusal_number(refusal: Refusal) -> u64
@@ -44,6 +46,17 @@ fn equality_number(equality: Equality) -> u64
         Equality::Equal => 1,
         Equality::Unequal => 0,
         Equality::Refused(refusal) => refusal_number(refusal),
+    }
+}
+
+// The answer to which steps lead from one path to another as a number.
+fn explained_number(answer: Explained) -> u64
+    ensures { λ r. ⌜ r ≡ encoded (explainedOf answer) ⌝ }
+{
+    match answer {
+        Explained::Chain(n) => n as u64,
+        Explained::Unequal => 0,
+        Explained::Refused(refusal) => refusal_number(refusal),
     }
 }
 
@@ -83,6 +96,13 @@ pub extern "C" fn migration_same_path(s: &[u8], p: &[u8], q: &[u8]) -> u64
     ensures { λ r. ⌜ r ≡ encoded (answered (samePath (now (s .entry)) (now (p .entry)) (now (q .entry)))) ⌝ }
 {
     equality_number(same_path(s, p, q))
+}
+
+#[no_mangle]
+pub extern "C" fn migration_path_chain(s: &[u8], p: &[u8], q: &[u8], tray: &mut [u8]) -> u64
+    ensures { λ r. ⌜ (r, now (tray .exit)) ≡ returned (inTray (now (tray .entry)) (pathChain (now (s .entry)) (now (p .entry)) (now (q .entry)))) ⌝ }
+{
+    explained_number(path_chain(s, p, q, &mut *tray))
 }
 
 #[no_mangle]

@@ -1,6 +1,7 @@
 // Delta, Sigma, Pi and matchings on lent sheets. Every call takes sheets of any length and content, and answers with a result or with the
 // first refusal that applies.
 mod checks;
+mod explain;
 pub mod exports;
 mod joins;
 mod matchings;
@@ -17,6 +18,7 @@ pub use checks::check_pushed;
 pub use checks::check_raw;
 pub use checks::check_schema;
 pub use checks::same_path;
+pub use explain::path_chain;
 pub use joins::pi;
 pub use migrate::delta;
 pub use migrate::sigma;
@@ -86,6 +88,13 @@ pub enum Verdict {
 // The answer to the path question.
 pub enum Equality {
     Equal,
+    Unequal,
+    Refused(Refusal),
+}
+
+// The answer to which steps lead from one path to another: the byte length of the chain's sheet, or that the paths are unequal.
+pub enum Explained {
+    Chain(usize),
     Unequal,
     Refused(Refusal),
 }

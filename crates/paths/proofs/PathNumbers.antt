@@ -8,8 +8,8 @@ use native.Mathlib.Nat.{not-suc-le-zero}
 use native.Mathlib.Numerals.{add-one}
 use lib.ListN.{length, getD, take, drop, length-append, length-map, take-append-drop, length-drop, List·getD-append}
 use lib.Seq.{take-suc, drop-cons, drop-at, getD-drop, getD-append-seam, take-length}
-use lib.Dec.{eqb}
-use borrow.Author.Tests.{eqb-true, eqb-false, eq-eqb, ne-eqb, ltb-false}
+use lib.Dec.{ltb, eqb}
+use borrow.Author.Tests.{eqb-true, eqb-false, eq-eqb, ne-eqb, ltb-true, ltb-false}
 use Rattle.meaning.specs.Lists.{range, upto, consIf, concatMap}
 use Rattle.meaning.specs.Schema.{Graph, Path, path, source, leaving, edgeLists, pathsOfLength, allPaths, hasLoop}
 use Rattle.meaning.proofs.Heights.{upto-more, filter-one}
@@ -17,7 +17,7 @@ use Rattle.meaning.proofs.PathLevels.{concatMap-append, followed, pathsOfLength
 use Rattle.meaning.proofs.Lists.{getD-map, upto-length, upto-getD}
 use Rattle.agreement.specs.Paths.{pathCount, pathAt}
 use Rattle.schema.proofs.Tallies.{loop-count}
-use Rattle.paths.specs.PathNumbers.{firstOf, leavingBelow, rankOf, endOf}
+use Rattle.paths.specs.PathNumbers.{firstOf, leavingBelow, rankOf, endOf, lengthOf}
 
 -- ---- edges that leave a node, one edge more
 module _ (G : Graph) (v k : ℕ) where
@@ -83,6 +83,16 @@ module _ (G : Graph) (acyclic : hasLoop G ≡ false) where
       ∙ ap (λ (l : List Path). getD l n (path 0 [])) (trivials (upto (G .nodes)))
       ∙ getD-map (λ n. path n []) (upto (G .nodes)) 0 (path 0 []) n (rw (upto-length (G .nodes)) h)
       ∙ ap (λ (m : ℕ). path m []) (upto-getD (G .nodes) n 0 h)
+
+  -- a path with an edge stands behind the trivial ones
+  pub not-trivial : (i n : ℕ) → lengthOf G i ≡ suc n → G .nodes ≤ i
+  not-trivial i n e = go (ltb i (G .nodes)) refl
+    where
+      go : (b : Bool) → ltb i (G .nodes) ≡ b → G .nodes ≤ i
+      go true q =
+          let z : lengthOf G i ≡ 0 = ap (λ (q : Path). length (q .edges)) (trivial-at i (ltb-true i (G .nodes) q)) in
+          absurd (omega (arith, z, e))
+      go false q = ltb-false i (G .nodes) q
 
   split : (i : ℕ) → allPaths G ≡ (pathsOfLength G 0 ++ concatMap (followed G) (take i (allPaths G))) ++ concatMap (followed G) (drop i (allPaths G))
   split i =

@@ -11,7 +11,7 @@ ghost use Rattle.schema.specs.Decoded.{pathOf};
 ghost use Rattle.paths.specs.PathWalks.{walkFrom, WalkIn};
 
 // The number of the path that follows by an edge of a rank, where those that follow begin at first.
-fn sum(first: u16, rank: u8) -> usize
+pub fn sum(first: u16, rank: u8) -> usize
     ensures { λ r. ⌜ r ≡ first + rank ⌝ }
 {
     first as usize + rank as usize

@@ -6,28 +6,30 @@ use Rattle.theory.proofs.Sigma.{sigma-one}
 use Rattle.theory.proofs.Pi.{pi-one}
 use Rattle.meaning.specs.Schema.{allPaths}
 use Rattle.meaning.specs.Formats.{maxPaths, kinds}
-use Rattle.meaning.proofs.Facts.{mapping-sized, instance-shaped}
+use Rattle.meaning.proofs.Facts.{schema-facts, mapping-sized, instance-shaped}
 use Rattle.meaning.proofs.Examples.{vendor, operator, vendorToOperator, run, book}
 use Rattle.agreement.proofs.Paths.{schema-iff, path-iff, paths-listed}
 use Rattle.agreement.proofs.Loops.{loop-iff, height-iff, height-one}
-use Rattle.agreement.proofs.Mappings.{images-iff, keeps-iff}
+use Rattle.agreement.proofs.Steps.{steps-agree}
+use Rattle.agreement.proofs.FirstChains.{chains-agree, first-chain-one}
+use Rattle.agreement.proofs.Mappings.{schema-well-formed, images-iff, keeps-iff}
 use Rattle.agreement.proofs.Instances.{links-iff, values-iff, equations-iff}
 use Rattle.agreement.proofs.Tests.{refused-iff, accepted-iff, refused-in}
 use Rattle.agreement.proofs.Refusals.{crowd-iff}
-use Rattle.agreement.proofs.Outcomes.{checkSchema-decided, checkMapping-decided, checkInstance-decided, samePath-decided, delta-answer, sigma-answer, pi-answer, checkPushed-decided, checkRaw-decided, pushedToRaw-answer, rawToPushed-answer, refused-tray, accepted-tray}
+use Rattle.agreement.proofs.Outcomes.{checkSchema-decided, checkMapping-decided, checkInstance-decided, samePath-decided, pathChain-answer, delta-answer, sigma-answer, pi-answer, checkPushed-decided, checkRaw-decided, pushedToRaw-answer, rawToPushed-answer, refused-tray, accepted-tray}
 use Rattle.agreement.proofs.Valid.{mapping-valid, instance-accepted-iff}
 use Rattle.agreement.proofs.Evenness.{even-iff}
 use Rattle.agreement.proofs.Sigma.{sigma-never-overfull}
 use Rattle.agreement.proofs.Bijections.{bijective-iff}
 use Rattle.agreement.proofs.Pi.{pi-tables, pi-single}
-use Rattle.agreement.proofs.AcceptedSheets.{path-answers, delta-answers, sigma-answers, pi-answers}
+use Rattle.agreement.proofs.AcceptedSheets.{path-answers, chain-answers, delta-answers, sigma-answers, pi-answers}
 use Rattle.agreement.proofs.Matchings.{judgeMatching-iff}
 use Rattle.agreement.proofs.Agrees.{schema-agrees, delta-agrees, sigma-agrees, pi-agrees}
 use Rattle.agreement.proofs.Demand3.{demand3, provided-iff, unprovided-refused, case3-provided}
 use Rattle.agreement.proofs.Framing.{push-frames}
 use Rattle.migration.proofs.Demand3.{calls-demand3, calls-refuse, meanings-meet}
 use Rattle.migration.proofs.Encoding.{exports-say, results-within}
-use Rattle.promises.specs.Promises.{Demand-1, Demand-2, Demand-3, Program, Header}
+use Rattle.promises.specs.Promises.{Demand-1, Demand-2, Demand-3, C-11, Program, Header}
 
 pub demand-1 : Demand-1
 demand-1 = record {
@@ -93,6 +95,15 @@ demand-3 = record {
   of-calls = calls-demand3;
   calls-refuse = calls-refuse;
   meanings-meet = meanings-meet;
+}
+
+pub c-11 : C-11
+c-11 = record {
+  path-chain = λ s p q tray. pathChain-answer tray s p q;
+  steps-agree = λ s {S} e. steps-agree S (schema-well-formed (schema-facts s e));
+  chains-agree = chains-agree;
+  chain-answers = chain-answers;
+  chain-one = λ s {S} e. first-chain-one S (schema-well-formed (schema-facts s e));
 }
 
 pub program : Program

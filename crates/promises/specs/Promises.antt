@@ -1,7 +1,8 @@
--- The promises of the three demands, of the program and of the C header, by demand and sentence; proofs/Promises.antt proves each under its name.
+-- The promises of the three demands, of the requests of document 02, of the program and of the C header, by demand and sentence; proofs/Promises.antt
+-- proves each under its name.
 -- A call is said by its meaning, a function of lists of numbers (`meaning` specs/Calls.antt). That the code answers as the meaning does is each public
--- call's contract, one equation with no `requires` (`migration` src/checks.rt, migrate.rt, turnings.rt, printing.rt and exports.rt). The other terms
--- stand in the specs/ of `theory` (source document 000), `meaning` (document 01), `agreement` and `migration`.
+-- call's contract, one equation with no `requires` (`migration` src/checks.rt, explain.rt, migrate.rt, turnings.rt, printing.rt and exports.rt). The other terms
+-- stand in the specs/ of `theory` (source document 000), `meaning` (documents 01 and 02), `agreement` and `migration`.
 -- By definition alone, in `meaning` specs/: the fields of sheets, refusals 1, 2 and 3, the text of push. The runs to check against: `meaning` proofs/Cases.antt.
 use Prim.Native.Nat.{ℕ, _<_, _≤_}
 use mathlib.Core.Path.{_≡_}
@@ -20,6 +21,7 @@ use Rattle.theory.specs.Pi.{IsComponent, IsPi}
 use Rattle.theory.specs.Matching.{IsMatching}
 use Rattle.meaning.specs.Lists.{sumOf}
 use Rattle.meaning.specs.Schema.{Path, path, Schema, isPath, allPaths, hasLoop, height}
+use Rattle.meaning.specs.PathChain.{Step}
 use Rattle.meaning.specs.Sheet.{faulty, sound, onSheet}
 use Rattle.meaning.specs.Formats.{Mapping, Instance, readMapping, readInstance, maxPaths, maxRows, kinds, instanceSheet, matchingSheet}
 use Rattle.meaning.specs.Views.{Shaped, schemaOf, nodeImage, edgeImage, mappingOf, count, instanceOf}
@@ -28,11 +30,12 @@ use Rattle.meaning.specs.Evenness.{even}
 use Rattle.meaning.specs.Sigma.{sigma}
 use Rattle.meaning.specs.Pi.{isBijective, pi}
 use Rattle.meaning.specs.Matching.{judgeMatching}
-use Rattle.meaning.specs.Calls.{Outcome, refused, accepted, ensureFits, checkSchema, checkMapping, checkInstance, samePath, Migrated, deltaTables, sigmaTables, piTables, sheetOf, sides, rawSheet, pushedSheet, checkPushed, checkRaw, pushedToRaw, rawToPushed, inTray}
+use Rattle.meaning.specs.Calls.{Outcome, refused, accepted, ensureFits, checkSchema, checkMapping, checkInstance, samePath, pathChain, Migrated, deltaTables, sigmaTables, piTables, sheetOf, sides, rawSheet, pushedSheet, checkPushed, checkRaw, pushedToRaw, rawToPushed, inTray}
 use Rattle.meaning.specs.Program.{frames, push}
 use Rattle.agreement.specs.Paths.{WellFormed, SameStarts, Loop, IsHeight, ListsPaths, Crowded}
+use Rattle.agreement.specs.PathChains.{StepsAgree, ChainsAgree, IsFirstChain, ChainAnswers}
 use Rattle.agreement.specs.Tests.{Refusal, Tests, FailsAt, Pass, Decides}
-use Rattle.agreement.specs.CallTests.{checkSchemaTests, checkMappingTests, checkInstanceTests, samePathTests, deltaTests, sigmaTests, piTests, pushedTests, rawTests, trayTests, sheetTests, Result}
+use Rattle.agreement.specs.CallTests.{checkSchemaTests, checkMappingTests, checkInstanceTests, samePathTests, pathChainTests, deltaTests, sigmaTests, piTests, pushedTests, rawTests, trayTests, sheetTests, Result}
 use Rattle.agreement.specs.Valid.{ValidMapping, ValidInstance, ImagesFit, KeepsEquations, LinksIn, ValuesIn, ObeysEquations}
 use Rattle.agreement.specs.Agrees.{SchemaAgrees, PathAnswers, Inputs, DeltaAgrees, DeltaAnswers, SigmaAgrees, SigmaAnswers, PiAgrees, PiAnswers}
 use Rattle.agreement.specs.Demand3.{Accepts, meaningAnswers, Provided, Clauses, AllRefuse}
@@ -136,6 +139,24 @@ pub record Demand-3 : Type 1 where
   pub of-calls : {c : Calls} → MeetsContracts c → {s t f i j : List ℕ} (x : Provided s t f i j) → Clauses x (answers c s t f i j)
   pub calls-refuse : {c : Calls} → MeetsContracts c → (s t f i j : List ℕ) → (Provided s t f i j → ⊥) → AllRefuse (answers c s t f i j)
   pub meanings-meet : MeetsContracts meaningCalls
+
+-- ---- Document 02, C-11: which rules made these paths equal
+
+pub record C-11 : Type 0 where
+  -- the order of refusals: the schema, the first path, the second path, last 16; what a tray is left as is Demand-1's
+  pub path-chain : (s p q tray : List ℕ) → Decides (trayTests tray (pathChainTests s p q)) (inTray tray (pathChain s p q) .answer)
+  -- "each step names the equation, the direction (0 left side to right, 1 back) and the number of edges before the replaced part": numbers make one
+  -- path of another exactly where they name a step of the theory between them
+  pub steps-agree : (s : List ℕ) {S : Schema} → judgeSchema s ≡ sound S → StepsAgree S
+  -- "the order of its numbers": all chains of so many steps, in the order of all their numbers in a row
+  pub chains-agree : (S : Schema) → ChainsAgree S
+  -- "For two equal paths they want the chain from the first lent path to the second"; "The chain has the fewest steps possible, at most 255, and among
+  -- those is the first in the order of its numbers. Unequal paths give "none", and that is given in no other case": none is the answer 0, in whatever
+  -- tray; how a chain "is written" is `meaning` specs/Formats.antt, from which it is read back
+  pub chain-answers : (s p q : List ℕ) {S : Schema} {P Q : Path} → judgeSchema s ≡ sound S → judgePath (S .graph) p ≡ sound P → judgePath (S .graph) q ≡ sound Q
+      → ChainAnswers s p q S P Q
+  -- no other chain is the first
+  pub chain-one : (s : List ℕ) {S : Schema} → judgeSchema s ≡ sound S → {p q : Path} {c d : List Step} → IsFirstChain S p q c → IsFirstChain S p q d → c ≡ d
 
 -- ---- The push program
 

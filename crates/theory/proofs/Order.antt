@@ -32,7 +32,7 @@ lex-trans (x ∷ l) (y ∷ m) (z ∷ n) (inr h) (inr k) = inr (h .0 ∙ k .0, le
 pub lex-asym : (l m : List ℕ) → Lex l m → Lex m l → ⊥
 lex-asym l m h k = lex-irreflexive l (lex-trans l m l h k)
 
-lex-compare : (l m : List ℕ) → length l ≡ length m → (l ≡ m) ⊎ (Lex l m ⊎ Lex m l)
+pub lex-compare : (l m : List ℕ) → length l ≡ length m → (l ≡ m) ⊎ (Lex l m ⊎ Lex m l)
 lex-compare [] [] e = inl refl
 lex-compare [] (y ∷ m) e = absurd (omega arith)
 lex-compare (x ∷ l) [] e = absurd (omega arith)

@@ -45,7 +45,7 @@ pub chain-trans : {S : Schema} {s : ℕ} {p q r : List ℕ} → Chain S s p q �
 chain-trans same d = d
 chain-trans (more t c) d = more t (chain-trans c d)
 
-step-sym : {S : Schema} {s : ℕ} {p q : List ℕ} → Step S s p q → Step S s q p
+pub step-sym : {S : Schema} {s : ℕ} {p q : List ℕ} → Step S s p q → Step S s q p
 step-sym t = record { before = t .before; after = t .after; a = t .b; b = t .a; equation = swap (t .equation); old = t .new; new = t .old }
   where
     swap : {A B : Type 0} → A ⊎ B → B ⊎ A

@@ -3,7 +3,7 @@
 use mathlib.Core.Path.{_≡_}
 use mathlib.Core.List.{List, [], _∷_, _++_}
 use mathlib.Core.Logic.{_⊎_}
-use Prim.Native.Nat.{ℕ, _<_}
+use Prim.Native.Nat.{ℕ, suc, _<_}
 use lib.ListN.{length}
 
 pub record Schema : Type 1 where
@@ -48,6 +48,11 @@ pub record Step (S : Schema) (s : ℕ) (p q : List ℕ) : Type 0 where
 pub data Chain (S : Schema) (s : ℕ) : List ℕ → List ℕ → Type 0 where
   same : {p : List ℕ} → Chain S s p p
   more : {p q r : List ℕ} → Step S s p q → Chain S s q r → Chain S s p r
+
+-- the number of its steps
+abbrev pub chainLength : {S : Schema} {s : ℕ} {p q : List ℕ} → Chain S s p q → ℕ
+chainLength same = 0
+chainLength (more t c) = suc (chainLength c)
 
 -- ---- the order of paths
 

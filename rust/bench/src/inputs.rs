@@ -4,6 +4,7 @@ use migration::MOST_INSTANCE_BYTES;
 use reference::plain::*;
 use vectors::build::*;
 use vectors::call::{Call, Case};
+use vectors::chains::{long_way, longer_way};
 use vectors::full::{base, full, grown};
 use vectors::limits::{full_schema, longest};
 use vectors::puzzles::complete_graph;
@@ -34,7 +35,8 @@ fn joined(rows: usize) -> Case {
     Case::new(format!("join.{rows}"), Call::Pi, sheets).with_tray(MOST_INSTANCE_BYTES)
 }
 
-/// The longest sheets, and the schemas that cost most to refuse or to accept.
+/// The longest sheets, the schemas that cost most to refuse or to accept, and the
+/// longest chains.
 fn worst() -> Vec<Case> {
     let wide = longest().into_iter().find(|case| case.name == "the longest instance");
     let wide = Case { name: "worst.longest_instance".into(), ..wide.expect("the longest") };
@@ -72,6 +74,8 @@ fn worst() -> Vec<Case> {
         check("loops_at_one_node", graph(1, &[(0, 0); 32])),
         check("two_nodes_both_ways", graph(2, &both)),
         Case::new("worst.pairs", Call::Pi, pairs).with_tray(MOST_INSTANCE_BYTES),
+        long_way().chain("worst.chain_220"),
+        longer_way().chain("worst.chain_222"),
         Case { name: "worst.no_colouring".into(), ..complete_graph(5, 4, 4) },
         Case { name: "worst.many_colourings".into(), ..complete_graph(4, 4, 6) },
     ]

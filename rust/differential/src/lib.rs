@@ -159,6 +159,9 @@ pub fn call(call: Call, sheets: &[Vec<u8>], tray: &mut [u8]) -> Result<usize, Re
         (Call::RawToPushed, [s, t, f, run, book, list]) => {
             raw_to_pushed_into(s, t, f, run, book, list, tray)
         }
+        (Call::PathChain, [s, p, q]) => {
+            path_chain_into(s, p, q, tray).map(|length| length.unwrap_or(0))
+        }
         _ => unreachable!("a call lent its sheets"),
     }
 }

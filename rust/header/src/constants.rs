@@ -27,13 +27,22 @@ pub const INSTANCE_BYTES: &str = "MIGRATION_INSTANCE_BYTES";
 /// The most bytes of a matching sheet.
 pub const MATCHING_BYTES: &str = "MIGRATION_MATCHING_BYTES";
 
+/// The most bytes of a chain sheet.
+pub const CHAIN_BYTES: &str = "MIGRATION_CHAIN_BYTES";
+
 /// Names of the header and the wrapper's numbers of them.
 macro_rules! stacks {
     ($($name:ident)*) => { [$((concat!("MIGRATION_", stringify!($name)), migration::$name)),*] };
 }
 
 /// The bytes of stack that the calls need, which are tried where the wrapper is.
-pub const STACKS: [(&str, usize); 8] = stacks! {
-    STACK_CHECK_SCHEMA STACK_CHECK_MAPPING STACK_CHECK_INSTANCE STACK_SAME_PATH STACK_DELTA
-    STACK_SIGMA STACK_PI STACK_MATCHINGS
+pub const STACKS: [(&str, usize); 9] = stacks! {
+    STACK_CHECK_SCHEMA STACK_CHECK_MAPPING STACK_CHECK_INSTANCE STACK_SAME_PATH STACK_PATH_CHAIN
+    STACK_DELTA STACK_SIGMA STACK_PI STACK_MATCHINGS
 };
+
+/// The constants that are compared with the wrapper's numbers, since no call tells
+/// them: the stacks, and the bytes of a chain of 255 steps, which no chain has.
+pub fn compared() -> impl Iterator<Item = (&'static str, usize)> {
+    [(CHAIN_BYTES, migration::MOST_CHAIN_BYTES)].into_iter().chain(STACKS)
+}

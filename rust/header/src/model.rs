@@ -1,7 +1,7 @@
 //! What the C program finds, with the reference in the library's place.
 
 use crate::arguments::{export, of_prototype, Argument, TRAY};
-use crate::constants::{constant, STACKS};
+use crate::constants::{compared, constant};
 use crate::read::Header;
 use crate::trials::Trial;
 use std::fmt;
@@ -11,8 +11,8 @@ use vectors::call::{Call, Case};
 /// What the program finds first.
 #[derive(Debug, Clone, Copy, PartialEq, Eq)]
 pub enum Failure {
-    /// The constant for a stack has another number than the wrapper's.
-    Stack(&'static str),
+    /// A constant has another number than the wrapper's.
+    Constant(&'static str),
     /// The trial at a place fails.
     Trial(usize),
 }
@@ -21,7 +21,7 @@ pub enum Failure {
 impl fmt::Display for Failure {
     fn fmt(&self, out: &mut fmt::Formatter<'_>) -> fmt::Result {
         match self {
-            Failure::Stack(name) => write!(out, "{name}: "),
+            Failure::Constant(name) => write!(out, "{name}: "),
             Failure::Trial(place) => write!(out, "trial {place}, "),
         }
     }
@@ -30,8 +30,8 @@ impl fmt::Display for Failure {
 /// What fails first, if anything does.
 pub fn first_failure(header: &Header, trials: &[Trial]) -> Result<Option<Failure>, String> {
     let differs = |(name, bytes): &(&str, usize)| header.value(name) != Some(*bytes as u64);
-    if let Some((name, _)) = STACKS.into_iter().find(differs) {
-        return Ok(Some(Failure::Stack(name)));
+    if let Some((name, _)) = compared().find(differs) {
+        return Ok(Some(Failure::Constant(name)));
     }
     for (place, trial) in trials.iter().enumerate() {
         if !passes(header, trial)? {

@@ -44,19 +44,19 @@ static const struct trial trials[] = {
 /* TRIALS */
 };
 
-/* A constant for a stack, and the wrapper's number of it. */
-static const struct stack {
+/* A constant that no call tells, and the wrapper's number of it. */
+static const struct number {
     const char *name;
     unsigned long found;
     unsigned long expected;
-} stacks[] = {
-/* STACKS */
+} numbers[] = {
+/* NUMBERS */
 };
 
-static int stacks_are_expected(void) {
-    for (size_t k = 0; k < sizeof stacks / sizeof stacks[0]; k++) {
-        if (stacks[k].found != stacks[k].expected) {
-            printf("%s: expected %lu; found %lu\n", stacks[k].name, stacks[k].expected, stacks[k].found);
+static int numbers_are_expected(void) {
+    for (size_t k = 0; k < sizeof numbers / sizeof numbers[0]; k++) {
+        if (numbers[k].found != numbers[k].expected) {
+            printf("%s: expected %lu; found %lu\n", numbers[k].name, numbers[k].expected, numbers[k].found);
             return 0;
         }
     }
@@ -164,7 +164,7 @@ static int answers_are_taken_apart(void) {
 
 int main(void) {
     const size_t count = sizeof trials / sizeof trials[0];
-    if (!answers_are_taken_apart() || !stacks_are_expected())
+    if (!answers_are_taken_apart() || !numbers_are_expected())
         return 1;
     for (null_where_empty = 0; null_where_empty < 2; null_where_empty++)
         for (size_t k = 0; k < count; k++)

@@ -1,7 +1,7 @@
 //! The C program that tries a header.
 
 use crate::arguments::{export, of_prototype, Argument};
-use crate::constants::{constant, STACKS};
+use crate::constants::{compared, constant};
 use crate::read::{Header, Word};
 use crate::trials::Trial;
 use std::collections::BTreeSet;
@@ -18,10 +18,10 @@ pub fn program(header: &Header, trials: &[Trial]) -> Result<String, String> {
         calls += &call_text(header, call)?;
     }
     let table = trials.iter().map(trial_text).collect::<Result<String, _>>()?;
-    let stack = |(name, bytes): (&str, usize)| format!("    {{\"{name}\", {name}, {bytes}}},\n");
-    let stacks: String = STACKS.into_iter().map(stack).collect();
+    let number = |(name, bytes): (&str, usize)| format!("    {{\"{name}\", {name}, {bytes}}},\n");
+    let numbers: String = compared().map(number).collect();
     let program = TEMPLATE.replace("/* CALLS */\n", &calls).replace("/* TRIALS */\n", &table);
-    Ok(program.replace("/* STACKS */\n", &stacks))
+    Ok(program.replace("/* NUMBERS */\n", &numbers))
 }
 
 /// Each function and each constant of the header is tried, and each that is tried
@@ -54,10 +54,10 @@ fn same_names<'a>(
 
 /// The constants that the program names.
 fn constants_of(trials: &[Trial]) -> BTreeSet<String> {
-    let stacks = STACKS.into_iter().map(|(name, _)| name.to_string());
+    let compared = compared().map(|(name, _)| name.to_string());
     let refusals = trials.iter().filter_map(|trial| constant(trial.outcome.answer.err()?.number));
     let sizes = trials.iter().flat_map(|trial| trial.constants()).map(str::to_string);
-    stacks.chain(refusals).chain(sizes).collect()
+    compared.chain(refusals).chain(sizes).collect()
 }
 
 /// The function that makes a call of a trial.

@@ -1,15 +1,16 @@
-//! Trials of the header's two sizes: sheets of just so many bytes, and trays.
+//! Trials of the header's three sizes: sheets of just so many bytes, and trays.
 
 use crate::arguments::TRAY;
-use crate::constants::{INSTANCE_BYTES, MATCHING_BYTES};
+use crate::constants::{CHAIN_BYTES, INSTANCE_BYTES, MATCHING_BYTES};
 use crate::trials::Trial;
 use reference::plain::{Attribute, Instance, Schema};
-use vectors::build::{graph, identity, instance, list, mapping};
+use vectors::build::{graph, identity, instance, list, mapping, path};
 use vectors::call::{Call, Case};
+use vectors::chains::longer_way;
 
-/// Trials of both sizes.
+/// Trials of the three sizes.
 pub fn longest() -> Vec<Trial> {
-    [longest_instances(), longest_lists()].concat()
+    [longest_instances(), longest_lists(), chains()].concat()
 }
 
 /// The schema whose instances are the longest: 16 nodes, 32 edges and 16
@@ -75,6 +76,26 @@ fn longest_lists() -> Vec<Trial> {
         }
     }
     trials
+}
+
+/// A chain of 222 steps, the longest that is known, in a tray that holds every
+/// chain, and in trays around its length; and no chain, which needs no tray.
+fn chains() -> Vec<Trial> {
+    let question = longer_way();
+    let sheets = vec![question.schema.to_sheet(), question.from.to_sheet(), question.to.to_sheet()];
+    let whole = Case::new("the longest chain", Call::PathChain, sheets.clone());
+    let whole = Trial::new(whole.with_tray(Case::MOST_CHAIN)).sized(TRAY, CHAIN_BYTES, 0);
+    let needed = whole.outcome.answer.expect("a chain");
+    let around = [needed - 1, needed, needed + 1].map(|tray| {
+        let name = format!("the longest chain, a tray of {tray}");
+        Trial::new(Case::new(name, Call::PathChain, sheets.clone()).with_tray(tray))
+    });
+    let none = [0, 1, 2].map(|tray| {
+        let other = [&sheets[..2], &[path(1, &[]).to_sheet()]].concat();
+        let name = format!("no chain, a tray of {tray}");
+        Trial::new(Case::new(name, Call::PathChain, other).with_tray(tray))
+    });
+    [vec![whole], around.to_vec(), none.to_vec()].concat()
 }
 
 /// A call with a list for a run of 512 rows.

@@ -42,7 +42,7 @@ fn refused(text: &str) -> String {
 fn a_wrong_number_is_found() {
     let text = header_text();
     let wrong = other_numbers(&text, &read(&text));
-    assert_eq!(wrong.len(), 2 * 27);
+    assert_eq!(wrong.len(), 2 * 29);
     for (place, change) in wrong.iter().enumerate() {
         found(change);
         if place % 2 == 0 {

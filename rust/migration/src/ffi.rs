@@ -40,6 +40,17 @@ extern "C" {
         q_len: usize,
     ) -> u64;
 
+    pub(crate) fn migration_path_chain(
+        s: *const u8,
+        s_len: usize,
+        p: *const u8,
+        p_len: usize,
+        q: *const u8,
+        q_len: usize,
+        tray: *mut u8,
+        tray_len: usize,
+    ) -> u64;
+
     pub(crate) fn migration_delta(
         s: *const u8,
         s_len: usize,

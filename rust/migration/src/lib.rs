@@ -42,12 +42,14 @@
 #![deny(unsafe_op_in_unsafe_fn)]
 
 mod answer;
+mod chain;
 mod checks;
 mod ffi;
 mod matchings;
 mod migrations;
 mod refusal;
 
+pub use chain::{path_chain, path_chain_into};
 pub use checks::{check_instance, check_mapping, check_schema, same_path};
 pub use matchings::{
     check_pushed, check_raw, pushed_to_raw, pushed_to_raw_into, raw_to_pushed, raw_to_pushed_into,
@@ -64,6 +66,10 @@ pub const MOST_INSTANCE_BYTES: usize = 51_220;
 /// this size holds every result of a turning.
 pub const MOST_MATCHING_BYTES: usize = 576;
 
+/// The most bytes that a chain sheet has: 255 steps of 10 bits.  A tray of this
+/// size holds every result of [`path_chain`].
+pub const MOST_CHAIN_BYTES: usize = 320;
+
 /// The stack that [`check_schema`] needs.
 pub const STACK_CHECK_SCHEMA: usize = 16 * 1024;
 
@@ -75,6 +81,9 @@ pub const STACK_CHECK_INSTANCE: usize = 120 * 1024;
 
 /// The stack that [`same_path`] needs.
 pub const STACK_SAME_PATH: usize = 20 * 1024;
+
+/// The stack that [`path_chain`] needs.
+pub const STACK_PATH_CHAIN: usize = 32 * 1024;
 
 /// The stack that [`delta`] needs.
 pub const STACK_DELTA: usize = 248 * 1024;

@@ -1,5 +1,6 @@
-//! The calls on document 01's base example: both forms agree, a refused call
-//! changes no lent byte, and bytes beyond the result keep their values.
+//! The calls on document 01's base example, and on its case 7: both forms agree,
+//! a refused call changes no lent byte, and bytes beyond the result keep their
+//! values.
 
 use migration::*;
 
@@ -18,6 +19,16 @@ const BOOK: [u8; 18] = [
 ];
 const PUSHED: [u8; 6] = [0x01, 0x00, 0x00, 0x20, 0x00, 0x08];
 const RAW: [u8; 6] = [0x01, 0x00, 0x00, 0x00, 0x10, 0x08];
+
+/// Case 7: edges a 0 to 1, b 1 to 3, c 0 to 2, d 2 to 3, f 3 to 4, and ab = cd.
+const RULED: [u8; 13] =
+    [0x28, 0xA0, 0x04, 0x04, 0x4C, 0x08, 0x8C, 0xD0, 0x08, 0x01, 0x02, 0x10, 0xC0];
+/// Case 8: the same without the equation.
+const FREE: [u8; 8] = [0x28, 0xA0, 0x00, 0x04, 0x4C, 0x08, 0x8C, 0xD0];
+const AB: [u8; 3] = [0x02, 0x00, 0x40];
+const CD: [u8; 3] = [0x02, 0x10, 0xC0];
+const ABF: [u8; 3] = [0x03, 0x00, 0x48];
+const CDF: [u8; 3] = [0x03, 0x10, 0xC8];
 
 /// A call that fills a tray.
 type Fill<'a> = &'a dyn Fn(&mut [u8]) -> Result<usize, Refusal>;
@@ -57,6 +68,43 @@ fn both_forms_of_each_call_agree() {
     });
 }
 
+/// The chain from one path to another.
+fn chain(s: &[u8], p: &[u8], q: &[u8]) -> Option<Vec<u8>> {
+    path_chain(s, p, q).unwrap()
+}
+
+#[test]
+fn both_forms_agree_on_a_chain() {
+    for (p, q) in [(&AB, &CD), (&CD, &AB), (&ABF, &CDF), (&AB, &AB)] {
+        forms_agree(path_chain(&RULED, p, q).map(Option::unwrap), &|tray| {
+            path_chain_into(&RULED, p, q, tray).map(Option::unwrap)
+        });
+    }
+}
+
+#[test]
+fn a_chain_has_the_steps_of_the_papers() {
+    assert_eq!(chain(&RULED, &AB, &CD), Some(vec![0x01, 0x00, 0x00]));
+    assert_eq!(chain(&RULED, &CD, &AB), Some(vec![0x01, 0x04, 0x00]));
+    assert_eq!(chain(&RULED, &ABF, &CDF), Some(vec![0x01, 0x00, 0x00]));
+    assert_eq!(chain(&RULED, &AB, &AB), Some(vec![0x00]));
+    assert_eq!(chain(&FREE, &AB, &AB), Some(vec![0x00]));
+}
+
+/// No chain, whatever the tray, which keeps its bytes: without the equation, and
+/// where the ends are others.
+#[test]
+fn unequal_paths_have_no_chain_and_need_no_tray() {
+    for (s, p, q) in [(&FREE[..], &AB, &CD), (&FREE[..], &ABF, &CDF), (&RULED[..], &AB, &CDF)] {
+        assert_eq!(chain(s, p, q), None);
+        for size in 0..5 {
+            let mut tray = vec![0xEE; size];
+            assert_eq!(path_chain_into(s, p, q, &mut tray), Ok(None));
+            assert!(tray.iter().all(|&byte| byte == 0xEE));
+        }
+    }
+}
+
 #[test]
 fn the_base_example_is_accepted() {
     assert_eq!(check_schema(&S), Ok(()));
@@ -80,6 +128,12 @@ fn each_place_is_told() {
     assert_eq!(check_pushed(&S, &T, &F, &RUN, &BOOK, &RAW), refused(17, 6));
     assert_eq!(same_path(&S, &none, &[0x00]), refused(1, 2));
     assert_eq!(same_path(&S, &[0x00], &none), refused(1, 3));
+    assert_eq!(path_chain(&none, &AB, &CD), refused(1, 1));
+    assert_eq!(path_chain(&RULED, &none, &CD), refused(1, 2));
+    assert_eq!(path_chain(&RULED, &AB, &none), refused(1, 3));
+    assert_eq!(path_chain(&RULED, &AB, &[0x02, 0x10, 0xD0]), refused(2, 3));
+    assert_eq!(path_chain(&RULED, &[0x12, 0x00, 0x40], &CD), refused(4, 2));
+    assert_eq!(path_chain_into(&RULED, &AB, &CD, &mut [0; 2]), refused(16, 0));
     assert_eq!(check_instance(&S, &none), refused(1, 2));
 }
 

@@ -23,6 +23,7 @@ fn stack(call: Call) -> usize {
         Call::CheckMapping => STACK_CHECK_MAPPING,
         Call::CheckInstance => STACK_CHECK_INSTANCE,
         Call::SamePath => STACK_SAME_PATH,
+        Call::PathChain => STACK_PATH_CHAIN,
         Call::Delta => STACK_DELTA,
         Call::Sigma => STACK_SIGMA,
         Call::Pi => STACK_PI,
@@ -57,7 +58,8 @@ fn longest_paths() -> Vec<Case> {
         let asked = vec![sheet.clone(), path.clone(), path.clone()];
         [
             Case::new("a chain of 16 nodes", Call::CheckSchema, vec![sheet]),
-            Case::new("a chain of 16 nodes", Call::SamePath, asked),
+            Case::new("a chain of 16 nodes", Call::SamePath, asked.clone()),
+            Case::new("a chain of 16 nodes", Call::PathChain, asked),
         ]
     };
     [doubled_chain(16), closed].into_iter().flat_map(calls).collect()

@@ -2,8 +2,9 @@
 //! or instances, path or paths; of transposition's two instances the run over S
 //! comes first. ... Then 12, 13, 14, 15; then the matching sheet (1, 2, 17);
 //! last 16. A refusal is the number and the sheet's place counted from 1 (0 for
-//! 12 to 16)."
+//! 12 to 16)."  The call of request C-11 of document 02 keeps to that order.
 
+use crate::chains::Chain;
 use crate::instance::Instance;
 use crate::mapping::Mapping;
 use crate::matching::Matching;
@@ -36,10 +37,24 @@ pub fn check_instance(s: &[u8], i: &[u8]) -> Result<(), Refusal> {
 /// "The path question takes a schema and two path sheets and yields yes or no."
 /// Paths with other starts or ends are unequal.
 pub fn same_path(s: &[u8], p: &[u8], q: &[u8]) -> Result<bool, Refusal> {
+    let (schema, p, q) = accept_paths(s, p, q)?;
+    Ok(p.equals(&schema, &q))
+}
+
+/// "For two equal paths they want the chain from the first lent path to the
+/// second": the written chain.  "Unequal paths give "none", and that is given in
+/// no other case."  Equal lists have the chain of 0 steps.
+pub fn path_chain(s: &[u8], p: &[u8], q: &[u8]) -> Result<Option<Vec<u8>>, Refusal> {
+    let (schema, p, q) = accept_paths(s, p, q)?;
+    Ok(Chain::between(&schema, &p, &q).map(|chain| chain.to_sheet()))
+}
+
+/// Accepted S (place 1), first path (2) and second path (3).
+fn accept_paths(s: &[u8], p: &[u8], q: &[u8]) -> Result<(Schema, Path, Path), Refusal> {
     let schema = at(1, Schema::accept(s))?;
     let p = at(2, Path::accept(&schema, p))?;
     let q = at(3, Path::accept(&schema, q))?;
-    Ok(p.equals(&schema, &q))
+    Ok((schema, p, q))
 }
 
 /// Delta of a T-instance (place 4): the result's whole sheet.
@@ -139,6 +154,19 @@ pub fn into_tray(result: Result<Vec<u8>, Refusal>, tray: &mut [u8]) -> Result<us
     let room = tray.get_mut(..sheet.len()).ok_or(SMALL_TRAY);
     at(0, room)?.copy_from_slice(&sheet);
     Ok(sheet.len())
+}
+
+/// Writes a result or none into a lent tray.  None writes nothing and is never
+/// refused, however small the tray; its length is 0, which no written chain
+/// has.
+pub fn into_tray_or_none(
+    result: Result<Option<Vec<u8>>, Refusal>,
+    tray: &mut [u8],
+) -> Result<usize, Refusal> {
+    match result? {
+        Some(sheet) => into_tray(Ok(sheet), tray),
+        None => Ok(0),
+    }
 }
 
 /// Accepted S, T and mapping: places 1 to 3 of most calls.

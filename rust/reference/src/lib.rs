@@ -1,10 +1,12 @@
 //! A naive reference implementation of document 01, "Delta, Sigma and Pi for
-//! inspection run records".
+//! inspection run records", and of request C-11 of document 02, "Which rules
+//! made these paths equal".
 //!
 //! It is written from the definitions, clarity before speed: equal paths are
-//! found by searching chains of steps, evenness is tested over all paths, and
-//! the rows of Pi are listed as families.  It serves as the other
-//! implementation against which results are compared.
+//! found by searching chains of steps, shortest chains by searching level by
+//! level, evenness is tested over all paths, and the rows of Pi are listed as
+//! families.  It serves as the other implementation against which results are
+//! compared.
 //!
 //! The calls take sheets as byte slices, in the order in which document 01
 //! judges them.  The decoded types and their encoders are gathered in
@@ -15,6 +17,7 @@
 
 pub mod bits;
 pub mod calls;
+pub mod chains;
 pub mod evenness;
 pub mod families;
 pub mod instance;
@@ -27,8 +30,8 @@ pub mod refusal;
 pub mod schema;
 
 pub use calls::{
-    check_instance, check_mapping, check_pushed, check_raw, check_schema, delta, into_tray, pi,
-    pushed_to_raw, raw_to_pushed, same_path, sigma,
+    check_instance, check_mapping, check_pushed, check_raw, check_schema, delta, into_tray,
+    into_tray_or_none, path_chain, pi, pushed_to_raw, raw_to_pushed, same_path, sigma,
 };
 pub use program::push;
 pub use refusal::Refusal;
@@ -37,8 +40,10 @@ pub use refusal::Refusal;
 ///
 /// Schemas, paths, mappings, instances and matchings each have a `to_sheet`
 /// method that encodes them, whether or not the sheet would be accepted, and an
-/// `accept` function that decodes and judges a sheet.
+/// `accept` function that decodes and judges a sheet.  A chain is never lent: it
+/// has the `to_sheet` method alone.
 pub mod plain {
+    pub use crate::chains::{Chain, Step};
     pub use crate::instance::{Instance, LARGEST_VALUES};
     pub use crate::mapping::Mapping;
     pub use crate::matching::Matching;

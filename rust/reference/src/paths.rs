@@ -2,8 +2,9 @@
 //! join up; length 0 is the trivial path."
 
 use crate::bits::{BitReader, BitWriter};
+use crate::chains::Step;
 use crate::refusal::{Judged, STRAY};
-use crate::schema::Schema;
+use crate::schema::{Equation, Schema};
 use std::cmp::Ordering;
 use std::collections::{BTreeMap, BTreeSet, VecDeque};
 
@@ -116,16 +117,17 @@ impl Path {
         Path { start: self.start, edges }
     }
 
-    /// The paths that one step leads to: "a step replaces one side of an
-    /// equation, inside a path, by its other side."
-    fn steps(&self, schema: &Schema) -> Vec<Path> {
+    /// The steps on this path in the order of their numbers, each with the path
+    /// that it leads to: "a step replaces one side of an equation, inside a
+    /// path, by its other side."
+    pub fn steps(&self, schema: &Schema) -> Vec<(Step, Path)> {
         let mut found = Vec::new();
-        for equation in &schema.equations {
-            let (left, right) = (&equation.left, &equation.right);
-            for (old, new) in [(left, right), (right, left)] {
-                for place in 0..=self.edges.len() {
-                    if self.has_inside(schema, place, old) {
-                        found.push(self.replaced(place, old, new));
+        for (equation, Equation { left, right }) in schema.equations.iter().enumerate() {
+            for (direction, old, new) in [(0, left, right), (1, right, left)] {
+                for before in 0..=self.edges.len() {
+                    if self.has_inside(schema, before, old) {
+                        let step = Step { equation, direction, before };
+                        found.push((step, self.replaced(before, old, new)));
                     }
                 }
             }
@@ -140,7 +142,7 @@ impl Path {
         let mut found = BTreeSet::from([self.clone()]);
         let mut waiting = VecDeque::from([self.clone()]);
         while let Some(path) = waiting.pop_front() {
-            for next in path.steps(schema) {
+            for (_, next) in path.steps(schema) {
                 if found.insert(next.clone()) {
                     waiting.push_back(next);
                 }

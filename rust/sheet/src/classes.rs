@@ -1,5 +1,6 @@
-//! All paths of a schema, and which of them are equal.
+//! All paths of a schema, which of them are equal, and by which steps.
 
+use crate::chain::Chain;
 use crate::path::Path;
 use crate::schema::Schema;
 use std::collections::BTreeMap;
@@ -62,6 +63,13 @@ impl Classes {
         self.class_of.get(path).copied()
     }
 
+    /// The other paths that are equal to a path, in order.
+    pub(crate) fn others<'a>(&'a self, path: &'a Path) -> impl Iterator<Item = &'a Path> {
+        let class = self.class(path);
+        let is_other = move |other: &&Path| *other != path && self.class(other) == class;
+        self.paths.iter().filter(is_other)
+    }
+
     /// The first path of each class with this start, in order.
     pub(crate) fn firsts_from(&self, start: usize) -> impl Iterator<Item = (usize, &Path)> {
         let numbered = self.paths.iter().enumerate();
@@ -76,7 +84,17 @@ fn parallel(schema: &Schema, p: &Path, q: &Path) -> bool {
 }
 
 /// The proved answer to whether two paths are equal.
-pub(crate) fn same(sheet: &[u8], p: &Path, q: &Path) -> Option<bool> {
+fn same(sheet: &[u8], p: &Path, q: &Path) -> Option<bool> {
     let (p, q) = (p.to_sheet().ok()?, q.to_sheet().ok()?);
     migration::same_path(sheet, &p, &q).ok()
+}
+
+/// The proved answer to which steps lead from a path to another, or that none do.
+/// None where the call refuses.
+pub(crate) fn chain(sheet: &[u8], p: &Path, q: &Path) -> Option<Option<Chain>> {
+    let (p, q) = (p.to_sheet().ok()?, q.to_sheet().ok()?);
+    match migration::path_chain(sheet, &p, &q).ok()? {
+        Some(written) => Chain::from_sheet(&written).ok().map(Some),
+        None => Some(None),
+    }
 }

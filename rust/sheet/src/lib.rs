@@ -3,9 +3,10 @@
 //!
 //! The plain types are [`Schema`], [`Path`], [`Mapping`], [`Instance`] and
 //! [`Matching`].  Each is read from text by `parse`, written as text, encoded
-//! by `to_sheet` and decoded by `from_sheet`.  A [`Question`] is a proved call
-//! with what it is lent; when it refuses, [`Question::explain`] finds the line
-//! or row that causes it.
+//! by `to_sheet` and decoded by `from_sheet`.  A [`Chain`] of steps between equal
+//! paths comes only from a call: it is decoded, and written as lines.  A
+//! [`Question`] is a proved call with what it is lent; when it refuses,
+//! [`Question::explain`] finds the line or row that causes it.
 //!
 //! A run with two dents and a loss, pushed to the operator's book:
 //!
@@ -41,6 +42,7 @@
 #![warn(missing_docs)]
 
 mod bits;
+mod chain;
 mod classes;
 mod csv;
 mod draw;
@@ -56,8 +58,10 @@ mod question;
 mod schema;
 mod tables;
 mod text;
+mod why;
 
 pub use bits::{Fault, Unwritable};
+pub use chain::{Chain, Step};
 pub use classes::all_paths;
 pub use draw::{draw_mapping, draw_schema};
 pub use explain::{Cause, Explanation};

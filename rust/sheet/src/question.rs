@@ -4,7 +4,7 @@ use crate::instance::Instance;
 use crate::lent::{Lent, LentSchema};
 use crate::mapping::Mapping;
 use crate::schema::Schema;
-use migration::{Refusal, MOST_INSTANCE_BYTES, MOST_MATCHING_BYTES};
+use migration::{Refusal, MOST_CHAIN_BYTES, MOST_INSTANCE_BYTES, MOST_MATCHING_BYTES};
 
 /// The proved calls.
 #[derive(Debug, Clone, Copy, PartialEq, Eq, Hash)]
@@ -17,6 +17,8 @@ pub enum Call {
     CheckInstance,
     /// Whether two paths are equal.
     SamePath,
+    /// By which steps two paths are equal.
+    PathChain,
     /// Pulls an instance of T back to S.
     Delta,
     /// Pushes an instance of S to T by joining tables.
@@ -62,6 +64,7 @@ impl Call {
             Call::CheckMapping => "check_mapping",
             Call::CheckInstance => "check_instance",
             Call::SamePath => "same_path",
+            Call::PathChain => "path_chain",
             Call::Delta => "delta",
             Call::Sigma => "sigma",
             Call::Pi => "pi",
@@ -79,7 +82,7 @@ impl Call {
             Call::CheckSchema => &[S],
             Call::CheckMapping => &[S, T, Mapping],
             Call::CheckInstance => &[S, Run],
-            Call::SamePath => &[S, FirstPath, SecondPath],
+            Call::SamePath | Call::PathChain => &[S, FirstPath, SecondPath],
             Call::Delta => &[S, T, Mapping, Book],
             Call::Sigma | Call::Pi => &[S, T, Mapping, Run],
             Call::CheckPushed | Call::CheckRaw | Call::PushedToRaw | Call::RawToPushed => {
@@ -101,8 +104,14 @@ pub enum Answer {
     Accepted,
     /// The paths are equal, or unequal.
     Equal(bool),
-    /// The result's sheet.
+    /// The result's sheet; of a chain where the paths are equal.
     Sheet(Vec<u8>),
+}
+
+/// The sheet in a tray.
+fn filled(mut tray: Vec<u8>, length: usize) -> Answer {
+    tray.truncate(length);
+    Answer::Sheet(tray)
 }
 
 /// A call with the sheets it is lent.  A missing sheet is lent empty: it does
@@ -182,14 +191,17 @@ impl Question {
         let (s, t, f) = (self.sheet(Role::S), self.sheet(Role::T), self.sheet(Role::Mapping));
         let (run, book, list) =
             (self.sheet(Role::Run), self.sheet(Role::Book), self.sheet(Role::List));
+        let (p, q) = (self.sheet(Role::FirstPath), self.sheet(Role::SecondPath));
         let accepted = |()| Answer::Accepted;
         match self.call {
             Call::CheckSchema => migration::check_schema(s).map(accepted),
             Call::CheckMapping => migration::check_mapping(s, t, f).map(accepted),
             Call::CheckInstance => migration::check_instance(s, run).map(accepted),
-            Call::SamePath => {
-                let (p, q) = (self.sheet(Role::FirstPath), self.sheet(Role::SecondPath));
-                migration::same_path(s, p, q).map(Answer::Equal)
+            Call::SamePath => migration::same_path(s, p, q).map(Answer::Equal),
+            Call::PathChain => {
+                let mut tray = self.new_tray(MOST_CHAIN_BYTES);
+                let length = migration::path_chain_into(s, p, q, &mut tray)?;
+                Ok(length.map_or(Answer::Equal(false), |length| filled(tray, length)))
             }
             Call::Delta => {
                 self.filled(MOST_INSTANCE_BYTES, |tray| migration::delta_into(s, t, f, book, tray))
@@ -211,15 +223,18 @@ impl Question {
         }
     }
 
+    /// The tray that is lent, where `most` bytes hold every result.
+    fn new_tray(&self, most: usize) -> Vec<u8> {
+        vec![0; self.tray.unwrap_or(most)]
+    }
+
     fn filled(
         &self,
         most: usize,
         call: impl FnOnce(&mut [u8]) -> Result<usize, Refusal>,
     ) -> Result<Answer, Refusal> {
-        let mut tray = vec![0; self.tray.unwrap_or(most)];
-        let length = call(&mut tray)?;
-        tray.truncate(length);
-        Ok(Answer::Sheet(tray))
+        let mut tray = self.new_tray(most);
+        call(&mut tray).map(|length| filled(tray, length))
     }
 
     /// S with its names, where it can be decoded.

@@ -68,6 +68,8 @@ fn the_equations_matter() {
     folder.sheet("sigma vendor.schema free-operator.schema vendor-to-operator.mapping run").refused(
         "vendor.schema line 39: equation Metal_Loss.spool.weld = Metal_Loss.weld goes to \
          Anomaly.joint.upstream = Anomaly.reference, which are unequal in T (8, broken rule)
+  equal to Anomaly.joint.upstream in T: no other path
+  equal to Anomaly.reference in T: no other path
 sigma refused sheet 3, the mapping (vendor-to-operator.mapping): an equation of S has unequal images in T
 mend: send the links to other paths, or state `equation Anomaly.joint.upstream = Anomaly.reference` in free-operator.schema
 ",
@@ -75,12 +77,17 @@ mend: send the links to other paths, or state `equation Anomaly.joint.upstream =
     let free = "free-vendor.schema free-operator.schema vendor-to-operator.mapping";
     let told = folder.sheet(&format!("sigma {free} run"));
     assert!(told.err().starts_with(
-        "vendor-to-operator.mapping line 3: no path from Dent goes to Anomaly.reference of T (12, uneven)\n"
+        "vendor-to-operator.mapping line 3: no path from Dent goes to Anomaly.reference of T (12, uneven)\n  \
+         equal to Anomaly.reference in T: no other path\n"
     ));
     assert_eq!(told.status(), 1);
     folder.sheet("sigma free-vendor.schema operator.schema vendor-to-operator.mapping run").refused(
         "vendor-to-operator.mapping line 11: Metal_Loss.weld and Metal_Loss.spool.weld both go to \
          Anomaly.reference of T, but are unequal in S (12, uneven)
+  Metal_Loss.spool.weld goes to Anomaly.joint.upstream, equal to Anomaly.reference in T by 1 step
+    1  Anomaly.[joint.upstream] = Anomaly.[reference]  equation 0, left to right (operator.schema line 29)
+  equal to Metal_Loss.weld in S: no other path
+  equal to Metal_Loss.spool.weld in S: no other path
 sigma refused, place 0: Sigma, a checker or transposition, and the mapping is not even
 mend: state `equation Metal_Loss.weld = Metal_Loss.spool.weld` in free-vendor.schema, or send one of them elsewhere
 ",

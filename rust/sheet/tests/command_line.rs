@@ -10,7 +10,7 @@ use std::process::Stdio;
 fn bad_usage_has_status_2_and_points_to_the_help() {
     let folder = Folder::with_example("usage", "base");
     let names =
-        "pack, show, check, delta, sigma, pi, match, turn, same-path, draw, version or help";
+        "pack, show, check, delta, sigma, pi, match, turn, same-path, why, draw, version or help";
     let told = |line: &str, what: &str, see: &str| {
         folder.sheet(line).bad(&format!("sheet: {what}\nsee `sheet help{see}`\n"));
     };
@@ -41,6 +41,9 @@ fn bad_usage_has_status_2_and_points_to_the_help() {
     told("sigma -o", "expected a file or folder after -o", "");
     told("sigma --force=yes", "--force takes no value", "");
     told("same-path - sheet:- A", "standard input can be lent only once", " same-path");
+    told("why vendor.schema Dent", "expected SCHEMA PATH PATH; 2 given", " why");
+    told("why vendor.schema Dent Dent --tray 1", "why takes no --tray", " why");
+    told("why vendor.schema sheet:- sheet:-", "standard input can be lent only once", " why");
     told("check instance - -", "standard input can be lent only once", " check");
 }
 
@@ -52,8 +55,19 @@ fn help_goes_to_standard_output() {
     for ask in ["--help", "-h", "help help"] {
         folder.sheet(ask).printed(&overview.out());
     }
-    let commands =
-        ["pack", "show", "check", "delta", "sigma", "pi", "match", "turn", "same-path", "draw"];
+    let commands = [
+        "pack",
+        "show",
+        "check",
+        "delta",
+        "sigma",
+        "pi",
+        "match",
+        "turn",
+        "same-path",
+        "why",
+        "draw",
+    ];
     for name in commands {
         assert!(overview.out().contains(&format!("\n  sheet {name} ")), "{name}");
         let help = folder.sheet(&format!("help {name}"));

@@ -72,11 +72,12 @@ fn set(question: &mut Question, role: Role, sheet: Vec<u8>) {
     }
 }
 
-const CALLS: [Call; 11] = [
+const CALLS: [Call; 12] = [
     Call::CheckSchema,
     Call::CheckMapping,
     Call::CheckInstance,
     Call::SamePath,
+    Call::PathChain,
     Call::Delta,
     Call::Sigma,
     Call::Pi,
@@ -118,7 +119,7 @@ fn the_cause_is_found_along_mappings_at_random() {
         question.run = Some(Lent::from_sheet("run.sheet", run.to_sheet().unwrap()));
         question.book = Some(Lent::from_sheet("book.sheet", book.to_sheet().unwrap()));
         question.list = Some(Lent::from_sheet("list.sheet", vec![0; random.below(6)]));
-        for call in CALLS.into_iter().filter(|&call| call != Call::SamePath) {
+        for call in CALLS.into_iter().filter(|call| !call.roles().contains(&Role::FirstPath)) {
             question.call = call;
             met[cause_is_found(&question, seed)] += 1;
         }

@@ -1,6 +1,6 @@
 //! What the documentation shows is what the command does: each `$ sheet` line of
-//! a console block is run in a copy of an example, and what it prints compared;
-//! each schema and mapping shown is read.
+//! a console block is run in a copy of an example, which may be named beside
+//! `console`, and what it prints compared; each schema and mapping shown is read.
 
 mod common;
 
@@ -28,13 +28,19 @@ fn blocks(page: &str) -> Vec<(String, Vec<String>)> {
     blocks
 }
 
-/// Runs the console blocks of a page, in the order of the page.
+/// Runs the console blocks of a page that name no example, in the order of the
+/// page.
 fn run_page(page: &Path, example_name: &str) -> usize {
+    run_blocks(page, "console", example_name)
+}
+
+/// Runs the blocks of a page with these words after the opening marks.
+fn run_blocks(page: &Path, marked: &str, example_name: &str) -> usize {
     let stem = page.file_stem().unwrap().to_string_lossy();
     let folder = Folder::with_example(&format!("page-{example_name}-{stem}"), example_name);
     let text = fs::read_to_string(page).unwrap();
     let mut ran = 0;
-    for (_, lines) in blocks(&text).iter().filter(|(sort, _)| sort == "console") {
+    for (_, lines) in blocks(&text).iter().filter(|(sort, _)| sort == marked) {
         let mut lines = lines.iter().peekable();
         while let Some(line) = lines.next() {
             let words = line.strip_prefix("$ sheet ").expect("a line of the command");
@@ -54,12 +60,14 @@ fn run_page(page: &Path, example_name: &str) -> usize {
 #[test]
 fn the_pages_show_what_the_command_does() {
     let folder = documentation();
-    let mut pages = 0;
+    let (mut pages, mut of_the_book) = (0, 0);
     for name in names_in(&folder).iter().filter(|name| name.ends_with(".md")) {
         assert!(run_page(&folder.join(name), "base") > 0, "{name} shows no command");
+        of_the_book += run_blocks(&folder.join(name), "console book", "book");
         pages += 1;
     }
     assert_eq!(pages, 5);
+    assert_eq!(of_the_book, 3);
 }
 
 #[test]

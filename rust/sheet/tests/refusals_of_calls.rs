@@ -3,7 +3,7 @@
 
 mod common;
 
-use common::{bare_rows, lines, Folder, MAPPED};
+use common::{bare_rows, equal_links, lines, Folder, MAPPED};
 
 #[test]
 fn refusal_12_uneven() {
@@ -19,6 +19,8 @@ fn refusal_12_uneven() {
     folder.write("fold.mapping", lines(&["A -> A", "B -> B", "A.x -> A.x", "A.y -> A.x"]));
     folder.sheet("sigma two.schema one.schema fold.mapping run").refused(&format!(
         "fold.mapping line 1: A.x and A.y both go to A.x of T, but are unequal in S (12, uneven)
+  equal to A.x in S: no other path
+  equal to A.y in S: no other path
 sigma refused, place 0: {because}
 mend: state `equation A.x = A.y` in two.schema, or send one of them elsewhere
 "
@@ -26,10 +28,64 @@ mend: state `equation A.x = A.y` in two.schema, or send one of them elsewhere
     folder.write("in.mapping", lines(&["A -> A", "B -> B", "A.x -> A.x"]));
     folder.sheet("sigma one.schema two.schema in.mapping less").refused(&format!(
         "in.mapping line 1: no path from A goes to A.y of T (12, uneven)
+  equal to A.y in T: no other path
 sigma refused, place 0: {because}
 mend: add a link to A in one.schema and send it there, or take A.y out of T
 "
     ));
+}
+
+/// The steps in T that bring two paths of S to one, and what they are equal to.
+#[test]
+fn refusal_12_uneven_by_steps() {
+    let folder = Folder::new("refusal-12-steps");
+    folder.write("many.schema", lines(&["node A", "node B"]) + &equal_links("l", 8));
+    let two = ["node A", "node B", "link A.x -> B", "link A.y -> B", "link A.z -> B"];
+    folder.write("two.schema", lines(&two) + "equation A.z = A.y\n");
+    folder.write("run/A.csv", "row,x,y,z\n");
+    folder.write("run/B.csv", "row\n");
+    let images = ["A -> A", "B -> B", "A.x -> A.l7", "A.y -> A.l1", "A.z -> A.l0"];
+    folder.write("fold.mapping", lines(&images));
+    let notes = [
+        "A.x goes to A.l7, equal to A.l0 in T by 7 steps",
+        "  1  A.[l7] = A.[l6]  equation 6, right to left (many.schema line 17)",
+        "  2  A.[l6] = A.[l5]  equation 5, right to left (many.schema line 16)",
+        "  3  A.[l5] = A.[l4]  equation 4, right to left (many.schema line 15)",
+        "  4  A.[l4] = A.[l3]  equation 3, right to left (many.schema line 14)",
+        "  5  A.[l3] = A.[l2]  equation 2, right to left (many.schema line 13)",
+        "  and 2 steps more",
+        "A.y goes to A.l1, equal to A.l0 in T by 1 step",
+        "  1  A.[l1] = A.[l0]  equation 0, right to left (many.schema line 11)",
+        "equal to A.x in S: no other path",
+        "equal to A.y in S: A.z",
+    ];
+    let what = "fold.mapping line 1: A.x and A.y both go to A.l0 of T, but are unequal in S";
+    let told: String = notes.iter().map(|note| format!("  {note}\n")).collect();
+    folder.sheet("sigma two.schema many.schema fold.mapping run").refused(&format!(
+        "{what} (12, uneven)
+{told}sigma refused, place 0: Sigma, a checker or transposition, and the mapping is not even
+mend: state `equation A.x = A.y` in two.schema, or send one of them elsewhere
+"
+    ));
+    let told: String = notes.iter().map(|note| format!("    {note}\n")).collect();
+    folder.sheet("check mapping two.schema many.schema fold.mapping").printed(&format!(
+        "accepted
+sigma, match and turn: not taken (12, uneven)
+  {what}
+{told}pi: taken
+"
+    ));
+    folder.write("none.schema", "node A\nnode B\n");
+    folder.write("none/A.csv", "row\n");
+    folder.write("none/B.csv", "row\n");
+    folder.write("in.mapping", "A -> A\nB -> B\n");
+    folder.sheet("sigma none.schema many.schema in.mapping none").refused(
+        "in.mapping line 1: no path from A goes to A.l0 of T (12, uneven)
+  equal to A.l0 in T: A.l1, A.l2, A.l3, A.l4, A.l5 and 2 more
+sigma refused, place 0: Sigma, a checker or transposition, and the mapping is not even
+mend: add a link to A in none.schema and send it there, or take A.l0 out of T
+",
+    );
 }
 
 #[test]

@@ -3,7 +3,7 @@
 
 mod common;
 
-use common::{bare_rows, hex, lines, Folder, MAPPED};
+use common::{bare_rows, equal_links, hex, lines, Folder, MAPPED};
 
 #[test]
 fn refusal_1_cut() {
@@ -214,8 +214,33 @@ fn refusal_8_broken_rule() {
     folder.write("same.mapping", lines(&["A -> A", "B -> B", "A.x -> A.x", "A.y -> A.y"]));
     folder.sheet("check mapping ruled.schema free.schema same.mapping").refused(
         "ruled.schema line 5: equation A.x = A.y goes to A.x = A.y, which are unequal in T (8, broken rule)
+  equal to A.x in T: no other path
+  equal to A.y in T: no other path
 check_mapping refused sheet 3, the mapping (same.mapping): an equation of S has unequal images in T
 mend: send the links to other paths, or state `equation A.x = A.y` in free.schema
+",
+    );
+}
+
+/// What each image is equal to, some paths and more than are shown; an equation
+/// whose images are equal is no cause.
+#[test]
+fn refusal_8_broken_rule_with_what_the_images_are_equal_to() {
+    let folder = Folder::new("refusal-8-equal");
+    let free = ["node X", "node Y", "link X.p -> Y", "link X.q -> Y", "link X.r -> Y"];
+    folder.write("ruled.schema", lines(&free) + "equation X.r = X.p\nequation X.p = X.q\n");
+    folder.write(
+        "many.schema",
+        lines(&["node A", "node B"]) + &equal_links("l", 8) + &equal_links("m", 4),
+    );
+    let images = ["X -> A", "Y -> B", "X.p -> A.m1", "X.q -> A.l2", "X.r -> A.m3"];
+    folder.write("to.mapping", lines(&images));
+    folder.sheet("check mapping ruled.schema many.schema to.mapping").refused(
+        "ruled.schema line 7: equation X.p = X.q goes to A.m1 = A.l2, which are unequal in T (8, broken rule)
+  equal to A.m1 in T: A.m0, A.m2, A.m3
+  equal to A.l2 in T: A.l0, A.l1, A.l3, A.l4, A.l5 and 2 more
+check_mapping refused sheet 3, the mapping (to.mapping): an equation of S has unequal images in T
+mend: send the links to other paths, or state `equation A.m1 = A.l2` in many.schema
 ",
     );
 }

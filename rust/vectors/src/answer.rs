@@ -10,7 +10,7 @@ pub const FILLING: u8 = 0xA5;
 #[derive(Debug, Clone, PartialEq, Eq)]
 pub struct Outcome {
     /// For an accepted call the byte length of its result; 1 for equal paths; 0
-    /// for unequal ones, and for a check.
+    /// for unequal ones, of which there is no chain either, and for a check.
     pub answer: Result<usize, Refusal>,
     /// The whole tray afterwards.
     pub tray: Vec<u8>,
@@ -27,17 +27,20 @@ impl Outcome {
     }
 }
 
-/// What the reference answers, before it is written to a tray.
-fn result(case: &Case) -> Result<Vec<u8>, Refusal> {
+/// What the reference answers, before it is written to a tray; nothing where
+/// there is no chain.
+fn result(case: &Case) -> Result<Option<Vec<u8>>, Refusal> {
     let sheets: Vec<&[u8]> = case.sheets.iter().map(Vec::as_slice).collect();
-    match (case.call, sheets.as_slice()) {
+    let sheet = match (case.call, sheets.as_slice()) {
         (Call::Delta, [s, t, f, j]) => delta(s, t, f, j),
         (Call::Sigma, [s, t, f, i]) => sigma(s, t, f, i),
         (Call::Pi, [s, t, f, i]) => pi(s, t, f, i),
         (Call::PushedToRaw, [s, t, f, run, book, list]) => pushed_to_raw(s, t, f, run, book, list),
         (Call::RawToPushed, [s, t, f, run, book, list]) => raw_to_pushed(s, t, f, run, book, list),
+        (Call::PathChain, [s, p, q]) => return path_chain(s, p, q),
         _ => unreachable!("a call with a tray, lent its sheets"),
-    }
+    };
+    sheet.map(Some)
 }
 
 /// What the reference answers to a call without a tray.
@@ -61,13 +64,16 @@ fn number(case: &Case) -> Result<usize, Refusal> {
 /// The reference's outcome of a case.
 pub fn reference_outcome(case: &Case) -> Outcome {
     let mut tray = vec![FILLING; case.tray];
-    let answer =
-        if case.call.has_tray() { into_tray(result(case), &mut tray) } else { number(case) };
+    let answer = if case.call.has_tray() {
+        into_tray_or_none(result(case), &mut tray)
+    } else {
+        number(case)
+    };
     Outcome { answer, tray }
 }
 
 /// The byte length of a case's result, if the call is accepted with a tray that
-/// holds it.
+/// holds it and there is one.
 pub fn result_length(case: &Case) -> Option<usize> {
-    result(case).ok().map(|sheet| sheet.len())
+    result(case).ok().flatten().map(|sheet| sheet.len())
 }

@@ -25,6 +25,8 @@ pub enum Call {
     PushedToRaw,
     /// S, T, a mapping, run, book, a list of the raw side; a tray.
     RawToPushed,
+    /// A schema, two paths; a tray.
+    PathChain,
 }
 
 /// What stands on a sheet.
@@ -46,7 +48,7 @@ pub enum Kind {
 
 impl Call {
     /// All calls.
-    pub const ALL: [Call; 11] = [
+    pub const ALL: [Call; 12] = [
         Call::CheckSchema,
         Call::CheckMapping,
         Call::CheckInstance,
@@ -58,6 +60,7 @@ impl Call {
         Call::CheckRaw,
         Call::PushedToRaw,
         Call::RawToPushed,
+        Call::PathChain,
     ];
 
     /// The call's name in the library.
@@ -74,6 +77,7 @@ impl Call {
             Call::CheckRaw => "check_raw",
             Call::PushedToRaw => "pushed_to_raw",
             Call::RawToPushed => "raw_to_pushed",
+            Call::PathChain => "path_chain",
         }
     }
 
@@ -86,7 +90,7 @@ impl Call {
             Call::CheckSchema => &[Schema],
             Call::CheckMapping => &[Schema, Schema, Mapping],
             Call::CheckInstance => &[Schema, InstanceOfS],
-            Call::SamePath => &[Schema, Path, Path],
+            Call::SamePath | Call::PathChain => &[Schema, Path, Path],
             Call::Delta => &[Schema, Schema, Mapping, InstanceOfT],
             Call::Sigma | Call::Pi => &[Schema, Schema, Mapping, InstanceOfS],
             Call::CheckPushed | Call::CheckRaw | Call::PushedToRaw | Call::RawToPushed => {
@@ -98,7 +102,7 @@ impl Call {
     /// Whether the call writes a result into a tray.
     pub fn has_tray(self) -> bool {
         use Call::*;
-        matches!(self, Delta | Sigma | Pi | PushedToRaw | RawToPushed)
+        matches!(self, Delta | Sigma | Pi | PushedToRaw | RawToPushed | PathChain)
     }
 }
 
@@ -121,6 +125,9 @@ impl Case {
 
     /// The most bytes that a result has: those of the longest sheet of an instance.
     pub const MOST_RESULT: usize = 51_220;
+
+    /// The most bytes that a chain has: 8 bits and 10 for each of 255 steps.
+    pub const MOST_CHAIN: usize = 320;
 
     /// A case of a call without a tray, or with an empty one.
     pub fn new(name: impl Into<String>, call: Call, sheets: Vec<Vec<u8>>) -> Self {

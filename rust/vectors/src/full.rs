@@ -20,7 +20,8 @@ pub fn base() -> Vec<Case> {
         (Call::CheckSchema, vec![s.clone()]),
         (Call::CheckMapping, vec![s.clone(), t.clone(), f.clone()]),
         (Call::CheckInstance, vec![s.clone(), run.clone()]),
-        (Call::SamePath, vec![s.clone(), trivial.clone(), trivial]),
+        (Call::SamePath, vec![s.clone(), trivial.clone(), trivial.clone()]),
+        (Call::PathChain, vec![s.clone(), trivial.clone(), trivial]),
         (Call::Delta, mapped(&book)),
         (Call::Sigma, mapped(&run)),
         (Call::Pi, vec![t.clone(), t.clone(), same, book.clone()]),
@@ -29,10 +30,13 @@ pub fn base() -> Vec<Case> {
         (Call::PushedToRaw, pushed),
         (Call::RawToPushed, raw),
     ];
-    let name = |call: Call| format!("base.{}", call.name());
-    cases
-        .map(|(call, sheets)| Case::new(name(call), call, sheets).with_tray(Case::MOST_RESULT))
-        .to_vec()
+    cases.map(|(call, sheets)| with_room("base", call, sheets)).to_vec()
+}
+
+/// The case of a size, with a tray that holds every result.
+fn with_room(size: &str, call: Call, sheets: Vec<Vec<u8>>) -> Case {
+    let most = if call == Call::PathChain { Case::MOST_CHAIN } else { Case::MOST_RESULT };
+    Case::new(format!("{size}.{}", call.name()), call, sheets).with_tray(most)
 }
 
 /// 8 nodes, 16 edges, 8 columns, 16 equations, 128 paths: a doubled chain of 5
@@ -114,7 +118,8 @@ pub fn full() -> Vec<Case> {
         (Call::CheckSchema, vec![s.clone()]),
         (Call::CheckMapping, vec![s.clone(), t.clone(), f.clone()]),
         (Call::CheckInstance, vec![s.clone(), run.clone()]),
-        (Call::SamePath, vec![s.clone(), p, q]),
+        (Call::SamePath, vec![s.clone(), p.clone(), q.clone()]),
+        (Call::PathChain, vec![s.clone(), p, q]),
         (Call::Delta, mapped(&book)),
         (Call::Sigma, mapped(&run)),
         (Call::Pi, vec![s.clone(), s.clone(), same, run.clone()]),
@@ -123,10 +128,7 @@ pub fn full() -> Vec<Case> {
         (Call::PushedToRaw, sides(&pushed)),
         (Call::RawToPushed, sides(&raw)),
     ];
-    let name = |call: Call| format!("full.{}", call.name());
-    cases
-        .map(|(call, sheets)| Case::new(name(call), call, sheets).with_tray(Case::MOST_RESULT))
-        .to_vec()
+    cases.map(|(call, sheets)| with_room("full", call, sheets)).to_vec()
 }
 
 /// Sigma at full size but for the number of rows.

@@ -2,10 +2,11 @@
 //! answers to them.
 //!
 //! - [`schemas`], [`instances`], [`mappings`], [`even`] make sheets that are
-//!   accepted, [`world`] sets of them that fit together;
+//!   accepted, [`world`] sets of them that fit together, [`questions`] two paths of
+//!   a schema in which many are equal;
 //! - [`damage`] makes one sheet of such a set one that is sent back;
-//! - [`papers`], [`full`], [`limits`], [`puzzles`], [`stream`] are the cases, [`record`] the vector
-//!   file and [`report`] their count by outcome;
+//! - [`papers`], [`full`], [`limits`], [`chains`], [`puzzles`], [`stream`] are the cases,
+//!   [`record`] the vector file and [`report`] their count by outcome;
 //! - [`rules`] makes sheets of a puzzle, [`kinds`] has puzzles of six kinds and any
 //!   size with their solutions, which [`modular`] finds for some, and [`hard`] the
 //!   cases that are hardest for Pi, with what they may take.
@@ -17,6 +18,7 @@ pub mod answer;
 pub mod base;
 pub mod build;
 pub mod call;
+pub mod chains;
 pub mod damage;
 pub mod even;
 pub mod full;
@@ -28,6 +30,7 @@ pub mod mappings;
 pub mod modular;
 pub mod papers;
 pub mod puzzles;
+pub mod questions;
 pub mod random;
 pub mod record;
 pub mod report;

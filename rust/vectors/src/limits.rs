@@ -4,6 +4,7 @@ use crate::answer::result_length;
 use crate::base::*;
 use crate::build::*;
 use crate::call::{Call, Case};
+use crate::chains::chains;
 use crate::puzzles::complete_graph;
 use reference::plain::*;
 
@@ -21,6 +22,7 @@ pub fn limits() -> Vec<Case> {
     cases.extend(long_lifts());
     cases.extend([(4, 3, 6), (4, 4, 1), (4, 4, 6)].map(|(v, c, n)| complete_graph(v, c, n)));
     cases.extend(trays());
+    cases.extend(chains());
     cases
 }
 

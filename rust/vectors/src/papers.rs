@@ -84,22 +84,25 @@ fn pairs() -> Vec<Case> {
     vec![Case::new("case 6: pi", Call::Pi, sheets).with_tray(32)]
 }
 
-/// Cases 7 and 8.
+/// Cases 7 and 8, and which equations make the paths equal.
 fn squares() -> Vec<Case> {
-    let ask = |name: &str, rule: Equation, p: &[usize], q: &[usize]| {
+    let ask = |call: Call, name: &str, rule: Equation, p: &[usize], q: &[usize]| {
         let mut schema = graph(5, &[(0, 1), (1, 3), (0, 2), (2, 3), (3, 4)]);
         schema.equations.push(rule);
         let sheets = vec![schema.to_sheet(), path(0, p).to_sheet(), path(0, q).to_sheet()];
-        Case::new(name, Call::SamePath, sheets)
+        Case::new(name, call, sheets).with_tray(4)
     };
     let short = || equation(0, &[0, 1], &[2, 3]);
     let long = || equation(0, &[0, 1, 4], &[2, 3, 4]);
-    vec![
-        ask("case 7: abf, cdf", short(), &[0, 1, 4], &[2, 3, 4]),
-        ask("case 7: ab, cd", short(), &[0, 1], &[2, 3]),
-        ask("case 8: ab, cd", long(), &[0, 1], &[2, 3]),
-        ask("case 8: abf, cdf", long(), &[0, 1, 4], &[2, 3, 4]),
-    ]
+    let asked = |call: Call| {
+        [
+            ask(call, "case 7: abf, cdf", short(), &[0, 1, 4], &[2, 3, 4]),
+            ask(call, "case 7: ab, cd", short(), &[0, 1], &[2, 3]),
+            ask(call, "case 8: ab, cd", long(), &[0, 1], &[2, 3]),
+            ask(call, "case 8: abf, cdf", long(), &[0, 1, 4], &[2, 3, 4]),
+        ]
+    };
+    [asked(Call::SamePath), asked(Call::PathChain)].concat()
 }
 
 /// Case 9.

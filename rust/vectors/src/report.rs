@@ -13,7 +13,7 @@ pub enum End {
     Accepted,
     /// The path question's yes.
     Equal,
-    /// The path question's no.
+    /// The path question's no, and that there is no chain.
     Unequal,
     /// Refused, with place and number.
     Refused {
@@ -28,7 +28,7 @@ impl End {
     /// How a call ended.
     pub fn of(call: Call, outcome: &Outcome) -> Self {
         match (call, outcome.answer) {
-            (Call::SamePath, Ok(0)) => End::Unequal,
+            (Call::SamePath | Call::PathChain, Ok(0)) => End::Unequal,
             (Call::SamePath, Ok(_)) => End::Equal,
             (_, Ok(_)) => End::Accepted,
             (_, Err(Refusal { number, place })) => End::Refused { place, number },

@@ -208,13 +208,14 @@ impl Iterator for Chance {
     }
 }
 
-/// A length for the tray: what is needed, a byte less, some more, or any.
+/// A length for the tray: what is needed, a byte less, some more, any, or none.
 fn some_tray(random: &mut Random, case: &Case) -> usize {
     let needed = if case.call.has_tray() { result_length(case) } else { None };
     match (needed, random.below(6)) {
         (Some(needed), 0) => needed.saturating_sub(1),
         (Some(needed), 1..=2) => needed,
         (Some(needed), 3..=4) => needed + 1 + random.below(20),
+        (None, 0) => 0,
         _ => random.below(80),
     }
 }

@@ -5,6 +5,7 @@ use crate::call::{Call, Kind};
 use crate::even::{copies, even_mapping};
 use crate::instances::{beside, instance, no_rows, shuffled};
 use crate::mappings::{mapping, Mapped};
+use crate::questions::any_question;
 use crate::random::Random;
 use reference::migrate;
 use reference::paths::{all_paths, Classes};
@@ -132,7 +133,8 @@ impl World {
         World { mapped, run, book, pushed, raw }
     }
 
-    /// What a call is lent.  The calls with one schema are lent S or T.
+    /// What a call is lent.  The calls with one schema are lent S or T; the one for
+    /// a chain mostly a schema with longer chains.
     pub fn lent(&self, random: &mut Random, call: Call) -> Vec<Sheet> {
         let World { mapped: Mapped { s, t, f }, run, book, pushed, raw } = self;
         let list = match call {
@@ -147,7 +149,10 @@ impl World {
             Call::CheckInstance => {
                 vec![Sheet::Schema(schema.clone()), Sheet::Instance(rows.clone())]
             }
-            Call::SamePath => vec![Sheet::Schema(schema.clone()), Sheet::Path(p), Sheet::Path(q)],
+            Call::PathChain if !random.once_in(3) => any_question(random).lent(),
+            Call::SamePath | Call::PathChain => {
+                vec![Sheet::Schema(schema.clone()), Sheet::Path(p), Sheet::Path(q)]
+            }
             _ => {
                 let of_kind = |place: usize| match (place, call.sheets()[place]) {
                     (0, _) => Sheet::Schema(s.clone()),
@@ -156,7 +161,7 @@ impl World {
                     (_, Kind::InstanceOfS) => Sheet::Instance(run.clone()),
                     (_, Kind::InstanceOfT) => Sheet::Instance(book.clone()),
                     (_, Kind::List) => Sheet::List(list.clone()),
-                    (_, Kind::Path) => unreachable!("paths are lent to the path question alone"),
+                    (_, Kind::Path) => unreachable!("paths are lent to the calls with one schema"),
                 };
                 (0..call.sheets().len()).map(of_kind).collect()
             }

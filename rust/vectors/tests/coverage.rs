@@ -37,6 +37,7 @@ fn numbers_of(kind: Kind) -> &'static [u8] {
 fn numbers_of_no_sheet(call: Call) -> &'static [u8] {
     match call {
         Call::CheckSchema | Call::CheckMapping | Call::CheckInstance | Call::SamePath => &[],
+        Call::PathChain => &[16],
         Call::Delta => &[15, 16],
         Call::Sigma => &[12, 16],
         Call::Pi => &[13, 14, 15, 16],
@@ -49,6 +50,7 @@ fn numbers_of_no_sheet(call: Call) -> &'static [u8] {
 fn can_occur(call: Call) -> Vec<End> {
     let mut ends = match call {
         Call::SamePath => vec![End::Equal, End::Unequal],
+        Call::PathChain => vec![End::Accepted, End::Unequal],
         _ => vec![End::Accepted],
     };
     let of_none = numbers_of_no_sheet(call).iter();
@@ -89,7 +91,7 @@ fn every_call_ends_in_every_way_that_it_can_and_in_no_other() {
     for (call, end) in report.met() {
         assert!(can_occur(call).contains(&end), "{} ends {end}", call.name());
     }
-    assert_eq!(Call::ALL.map(|call| can_occur(call).len()).iter().sum::<usize>(), 266);
+    assert_eq!(Call::ALL.map(|call| can_occur(call).len()).iter().sum::<usize>(), 281);
 }
 
 #[test]
@@ -136,6 +138,10 @@ fn the_papers_cases_end_as_it_says() {
     check(Call::Pi, "case 6: pi", &[Accepted]);
     check(Call::SamePath, "case 7: abf, cdf", &[Equal]);
     check(Call::SamePath, "case 8: ab, cd", &[Unequal]);
+    check(Call::PathChain, "case 7: abf, cdf", &[Accepted]);
+    check(Call::PathChain, "case 7: ab, cd", &[Accepted]);
+    check(Call::PathChain, "case 8: ab, cd", &[Unequal]);
+    check(Call::PathChain, "case 8: abf, cdf", &[Accepted]);
     check(Call::CheckSchema, "case 9: schema", &[refused(1, 1)]);
     check(Call::SamePath, "case 9: path", &[refused(2, 2), refused(2, 3)]);
     check(Call::CheckSchema, "case 10: 256 paths", &[Accepted]);

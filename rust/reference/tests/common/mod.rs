@@ -4,7 +4,7 @@
 #![allow(dead_code, unused_imports)]
 
 use reference::plain::*;
-use reference::Refusal;
+use reference::{path_chain, Refusal};
 pub use vectors::base::*;
 pub use vectors::build::*;
 
@@ -42,4 +42,25 @@ fn by_tables(a: &Instance, list: Vec<usize>) -> Matching {
     let mut rest = list.into_iter();
     let partners = a.rows.iter().map(|&rows| rest.by_ref().take(rows).collect()).collect();
     Matching { partners }
+}
+
+/// A step of a chain as it is written: equation, direction, edges before.
+pub type Numbers = [usize; 3];
+
+/// The call on the sheets of a schema and two paths.
+pub fn chain(s: &Schema, p: &Path, q: &Path) -> Result<Option<Vec<u8>>, Refusal> {
+    path_chain(&s.to_sheet(), &p.to_sheet(), &q.to_sheet())
+}
+
+/// The written chain, put together from a text of bits.
+pub fn written(steps: &[Numbers]) -> Vec<u8> {
+    let mut bits = format!("{:08b}", steps.len());
+    for [equation, direction, before] in steps {
+        bits += &format!("{equation:05b}{direction:01b}{before:04b}");
+    }
+    while bits.len() % 8 != 0 {
+        bits.push('0');
+    }
+    let byte = |at: usize| u8::from_str_radix(&bits[at..at + 8], 2).unwrap();
+    (0..bits.len()).step_by(8).map(byte).collect()
 }

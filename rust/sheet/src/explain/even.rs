@@ -1,9 +1,10 @@
 //! Causes of an uneven mapping: 12.
 
+use super::equal::{equal_to, goes_to};
 use super::Cause;
 use crate::classes::Classes;
 use crate::kinds;
-use crate::lent::Lent;
+use crate::lent::{Lent, LentSchema};
 use crate::mapping::Mapping;
 use crate::path::Path;
 use crate::question::Question;
@@ -20,6 +21,7 @@ pub(super) fn causes(question: &Question) -> Option<Vec<Cause>> {
         t_classes: Classes::of(t_schema, &t.lent.sheet)?,
         lent: question.mapping.as_ref()?,
         s_file: &s.lent.file,
+        t_lent: t,
     };
     let mut causes = Vec::new();
     for node in 0..s_schema.nodes.len() {
@@ -37,6 +39,7 @@ struct Lifting<'a> {
     t_classes: Classes,
     lent: &'a Lent,
     s_file: &'a str,
+    t_lent: &'a LentSchema,
 }
 
 impl Lifting<'_> {
@@ -65,17 +68,19 @@ impl Lifting<'_> {
     }
 
     fn no_lift(&self, node: usize, q: &Path) -> Cause {
+        let notes = vec![equal_to(self.t, &self.t_classes, q, "T")];
         let (name, q) = (self.s.node_name(node), q.text(self.t));
         let what = format!("no path from {name} goes to {q} of T");
         let mend = format!(
             "add a link to {name} in {} and send it there, or take {q} out of T",
             self.s_file
         );
-        Cause::new(self.place(node), what).mend(mend)
+        Cause::new(self.place(node), what).notes(notes).mend(mend)
     }
 
     fn two_lifts(&self, node: usize, q: &Path, first: &Path, second: &Path) -> Cause {
         let parallel = first.end(self.s) == second.end(self.s);
+        let notes = self.notes_on_lifts(q, [first, second]);
         let (first, second) = (first.text(self.s), second.text(self.s));
         let q = q.text(self.t);
         let what = format!("{first} and {second} both go to {q} of T, but are unequal in S");
@@ -86,7 +91,16 @@ impl Lifting<'_> {
             ),
             false => "send one of them elsewhere, or take it out of S".to_string(),
         };
-        Cause::new(self.place(node), what).mend(mend)
+        Cause::new(self.place(node), what).notes(notes).mend(mend)
+    }
+
+    /// By which steps the images of two paths are equal to a path of T, and what
+    /// the paths are equal to in S.
+    fn notes_on_lifts(&self, q: &Path, lifts: [&Path; 2]) -> Vec<String> {
+        let over = |p: &Path| goes_to(self.t_lent, &p.text(self.s), &self.f.path_image(p)?, q);
+        let images = lifts.into_iter().filter_map(over).flatten();
+        let equal = lifts.map(|p| equal_to(self.s, &self.s_classes, p, "S"));
+        images.chain(equal).collect()
     }
 
     /// The columns at F(c) that are the image of no column at c, or of several.

@@ -1,7 +1,8 @@
 //! Causes in a mapping: 1, 2, 7 and 8.
 
+use super::equal::equal_to;
 use super::{fault_cause, Cause};
-use crate::classes;
+use crate::classes::{chain, Classes};
 use crate::kinds;
 use crate::lent::Lent;
 use crate::mapping::Mapping;
@@ -113,17 +114,20 @@ impl Misfit<'_> {
     }
 }
 
-/// The equations of S whose sides have unequal images.
+/// The equations of S whose sides have unequal images, and what each image is
+/// equal to.
 fn broken_rules(question: &Question, mapping: &Mapping) -> Option<Vec<Cause>> {
     let (s, t) = (question.s.as_ref()?, question.t.as_ref()?);
     let (s_schema, t_schema) = (question.s_schema()?, question.t_schema()?);
+    let t_classes = Classes::of(t_schema, &t.lent.sheet)?;
     let mut causes = Vec::new();
     for (number, equation) in s_schema.equations.iter().enumerate() {
         let images = [&equation.left, &equation.right].map(|side| mapping.path_image(side));
         let [Some(left), Some(right)] = images else { continue };
-        if classes::same(&t.lent.sheet, &left, &right) != Some(false) {
+        if chain(&t.lent.sheet, &left, &right) != Some(None) {
             continue;
         }
+        let notes = [&left, &right].map(|image| equal_to(t_schema, &t_classes, image, "T"));
         let text = |path: &Path| path.text(t_schema);
         let (left, right) = (text(&left), text(&right));
         let place = s.lent.place(|lines| lines.equations.get(number));
@@ -133,7 +137,7 @@ fn broken_rules(question: &Question, mapping: &Mapping) -> Option<Vec<Cause>> {
             "send the links to other paths, or state `equation {left} = {right}` in {}",
             t.lent.file
         );
-        causes.push(Cause::new(place, what).mend(mend));
+        causes.push(Cause::new(place, what).notes(notes.to_vec()).mend(mend));
     }
     Some(causes)
 }

@@ -3,6 +3,7 @@
 //! Number and place are the proved call's; the cause is looked for afterwards
 //! in the same sheets, and named by table, row and line.
 
+mod equal;
 mod even;
 mod instance;
 mod list;
@@ -25,13 +26,20 @@ pub struct Cause {
     pub place: String,
     /// What is there.
     pub what: String,
+    /// What else helps to see why, one a line.
+    pub notes: Vec<String>,
     /// What would mend it.
     pub mend: Option<String>,
 }
 
 impl Cause {
     pub(crate) fn new(place: impl Into<String>, what: impl Into<String>) -> Self {
-        Cause { place: place.into(), what: what.into(), mend: None }
+        Cause { place: place.into(), what: what.into(), notes: Vec::new(), mend: None }
+    }
+
+    pub(crate) fn notes(mut self, notes: Vec<String>) -> Self {
+        self.notes = notes;
+        self
     }
 
     pub(crate) fn mend(mut self, mend: impl Into<String>) -> Self {
@@ -56,14 +64,15 @@ pub struct Explanation {
 /// The most causes that are shown.
 const MOST_SHOWN: usize = 5;
 
-/// The causes first, each with number and word; then which call refused which
-/// sheet and why; then what would mend the first cause.
+/// The causes first, each with number and word and below it its notes; then which
+/// call refused which sheet and why; then what would mend the first cause.
 impl fmt::Display for Explanation {
     fn fmt(&self, out: &mut fmt::Formatter<'_>) -> fmt::Result {
         let refusal = self.refusal;
         let tag = format!("({}, {})", refusal.number, refusal.word());
         for cause in self.causes.iter().take(MOST_SHOWN) {
             writeln!(out, "{}: {} {tag}", cause.place, cause.what)?;
+            cause.notes.iter().try_for_each(|note| writeln!(out, "  {note}"))?;
         }
         if self.causes.is_empty() {
             let place = self.sheet.as_ref().map_or(self.call.name(), |(_, file)| file);
@@ -131,12 +140,14 @@ impl Question {
         let whole = Question { tray: None, ..self.clone() };
         let Ok(Answer::Sheet(sheet)) = whole.ask() else { return None };
         let (needed, lent) = (sheet.len(), self.tray?);
-        let what = format!("the result needs {needed} bytes, but {lent} were lent");
+        let needed = counted(needed, "byte");
+        let what = format!("the result needs {needed}, but {lent} were lent");
         let most = match self.call {
             Call::PushedToRaw | Call::RawToPushed => migration::MOST_MATCHING_BYTES,
+            Call::PathChain => migration::MOST_CHAIN_BYTES,
             _ => migration::MOST_INSTANCE_BYTES,
         };
-        let mend = format!("lend {needed} bytes; {most} hold every result");
+        let mend = format!("lend {needed}; {most} hold every result");
         Some(vec![Cause::new("the tray", what).mend(mend)])
     }
 }
@@ -144,7 +155,9 @@ impl Question {
 /// What a sheet is to a call, in words.
 fn role_name(call: Call, role: Role) -> &'static str {
     match (call, role) {
-        (Call::CheckSchema | Call::CheckInstance | Call::SamePath, Role::S) => "the schema",
+        (Call::CheckSchema | Call::CheckInstance | Call::SamePath | Call::PathChain, Role::S) => {
+            "the schema"
+        }
         (Call::CheckInstance, Role::Run) => "the instance",
         (_, Role::S) => "schema S",
         (_, Role::T) => "schema T",

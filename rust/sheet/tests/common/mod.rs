@@ -168,6 +168,13 @@ pub fn lines(facts: &[&str]) -> String {
     facts.iter().map(|fact| format!("{fact}\n")).collect()
 }
 
+/// So many links from A to B, each equal to the next by an equation.
+pub fn equal_links(name: &str, count: usize) -> String {
+    let links = (0..count).map(|number| format!("link A.{name}{number} -> B\n"));
+    let next = |number: usize| format!("equation A.{name}{number} = A.{name}{}\n", number + 1);
+    links.chain((0..count - 1).map(next)).collect()
+}
+
 /// A table with only row numbers.
 pub fn bare_rows(count: usize) -> String {
     let rows = (0..count).map(|row| format!("{row}\n"));

@@ -4,9 +4,9 @@ use Rattle.meaning.specs.PathEquality.{equal}
 use Rattle.meaning.specs.Calls.{accepted, samePath}
 use Rattle.schema.specs.Decoded.{schemaOf, pathOf}
 use Rattle.migration.specs.declared.Refusal.{Refusal}
-use Rattle.migration.specs.Answers.{orNext, outcomeOf}
-use Rattle.migration.proofs.Refusing.{refusal, no-refusal, some-refusal, none-first, none-next}
-use Rattle.migration.proofs.Checking.{paths-compared}
+use Rattle.migration.specs.Answers.{outcomeOf}
+use Rattle.migration.proofs.Refusing.{no-refusal, some-refusal}
+use Rattle.migration.proofs.Checking.{paths-judged, paths-sound}
 use borrow.Author.Needs.{needs}
 use Rattle.migration.proofs.checks.same_path.Statement.{statement}
 use Rattle.migration.proofs.checks.same_path.Tie as tie
@@ -17,7 +17,8 @@ compared c =
     let a = c .before .before .before .judge-path in
     let b = c .before .before .judge-path2 in
     let x = c .before .before .before .before .before .before .before .before .before .args in
-    ap (λ (r : Refusal). outcomeOf r (equal (schemaOf (s .result)) (pathOf (a .result .path)) (pathOf (b .result .path)))) (c .before .first .ensures) ∙ paths-compared (s .result) (x .s .now) (s .ensures .says) (a .result) (b .result) (x .p .now) (x .q .now) (a .ensures .says) (b .ensures .says)
+    ap (λ (r : Refusal). outcomeOf r (equal (schemaOf (s .result)) (pathOf (a .result .path)) (pathOf (b .result .path)))) (c .before .first .ensures)
+    ∙ paths-judged (s .result) (x .s .now) (s .ensures .says) (a .result) (b .result) (x .p .now) (x .q .now) (a .ensures) (b .ensures) equal
 
 -- the answer where no sheet is refused
 answered : (c : tie.After-equal) → accepted (c .equal .result) ≡ samePath (c .before .before .before .before .before .before .before .before .before .before .before .before .before .args .s .now) (c .before .before .before .before .before .before .before .before .before .before .before .before .before .args .p .now) (c .before .before .before .before .before .before .before .before .before .before .before .before .before .args .q .now)
@@ -40,12 +41,10 @@ equal-requires c κs =
     let s = c .before .before .before .before .before .before .before .before .judge-schema in
     let a = c .before .before .before .before .before .before .judge-path in
     let b = c .before .before .before .before .before .judge-path2 in
-    let first = orNext (refusal (s .result .fault) 1) (refusal (a .result .fault) 2) in
-    let e = ap (λ (r : Refusal). r .number) (sym (c .before .before .before .before .first .ensures)) ∙ c .before .before .if1 .taken in (
-      s .ensures .sound,
-      record { short = a .ensures .short; path = a .ensures .path (none-next (refusal (s .result .fault) 1) (refusal (a .result .fault) 2) (none-first first (refusal (b .result .fault) 3) e)) },
-      record { short = b .ensures .short; path = b .ensures .path (none-next first (refusal (b .result .fault) 3) e) },
-    )
+    let x = c .before .before .before .before .before .before .before .before .before .before .before .before .args in
+    let e = ap (λ (r : Refusal). r .number) (sym (c .before .before .before .before .first .ensures)) ∙ c .before .before .if1 .taken in
+    let k = paths-sound (s .result) (x .s .now) (s .ensures .says) (a .result) (b .result) (x .p .now) (x .q .now) (a .ensures) (b .ensures) e in
+    (s .ensures .sound, k .0, k .1)
 
 returns : tie.Need-returns
 returns c = ap accepted (sym (c .if2 .taken)) ∙ answered (c .before)

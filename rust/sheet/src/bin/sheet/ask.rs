@@ -155,7 +155,9 @@ pub fn schema(question: &Question, role: Role) -> Result<&Schema, Failure> {
 /// What a word of the command line is called in usage messages.
 fn word_for(call: Call, role: Role) -> &'static str {
     match (call, role) {
-        (Call::CheckSchema | Call::CheckInstance | Call::SamePath, Role::S) => "SCHEMA",
+        (Call::CheckSchema | Call::CheckInstance | Call::SamePath | Call::PathChain, Role::S) => {
+            "SCHEMA"
+        }
         (Call::CheckInstance, Role::Run) => "INSTANCE",
         (_, Role::S) => "S",
         (_, Role::T) => "T",

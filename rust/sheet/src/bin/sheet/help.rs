@@ -29,6 +29,7 @@ fn text(command: &str) -> Option<&'static str> {
         "match" => MATCH,
         "turn" => TURN,
         "same-path" => SAME_PATH,
+        "why" => WHY,
         "draw" => DRAW,
         "version" => VERSION,
         _ => return None,
@@ -49,6 +50,7 @@ sheet: inspection run records from text and CSV to the proved calls and back
   sheet turn pushed-to-raw|raw-to-pushed S T MAPPING RUN BOOK LIST
                                                        turn it to the other side
   sheet same-path SCHEMA PATH PATH                     are two paths equal?
+  sheet why SCHEMA PATH PATH                           by which equations?
   sheet draw schema|mapping ..                         Graphviz text
   sheet help COMMAND                                   more on a command
 
@@ -187,6 +189,20 @@ Prints `equal` or `unequal`: whether the schema's equations make two paths
 equal. A path is NODE.LINK.LINK, or the node alone; sheet:FILE is a path sheet.
 
 Example: sheet same-path operator.schema Anomaly.joint.upstream Anomaly.reference
+";
+
+const WHY: &str = "\
+sheet why SCHEMA PATH PATH
+
+Tells by which equations two paths are equal: the steps from the first path to
+the second, as few as there can be. Each step has a line: the path before it and
+after it, with brackets around what is replaced, then the equation by its number
+and which side is replaced, the left by the right or the right by the left.
+
+For unequal paths it tells which starts or ends differ, if any do, and lists the
+paths that are equal to each of the two.
+
+Example: sheet why operator.schema Anomaly.joint.upstream Anomaly.reference
 ";
 
 const DRAW: &str = "\

@@ -55,6 +55,7 @@ fn takers(question: &Question) -> Result<String, Failure> {
         text.push_str(&format!("{whose}: not taken ({number}, {word})\n"));
         for cause in asked.explain(refusal).causes.iter().take(3) {
             text.push_str(&format!("  {}: {}\n", cause.place, cause.what));
+            cause.notes.iter().for_each(|note| text.push_str(&format!("    {note}\n")));
         }
     }
     Ok(text)

@@ -8,6 +8,7 @@ mod pack;
 mod same_path;
 mod show;
 mod version;
+mod why;
 
 use crate::arguments::Arguments;
 use crate::failure::Failure;
@@ -26,7 +27,7 @@ pub struct Command {
 const FILES: &[&str] = &["--output", "--force"];
 const MIGRATES: &[&str] = &["--output", "--force", "--tray"];
 
-const COMMANDS: [Command; 11] = [
+const COMMANDS: [Command; 12] = [
     Command {
         name: "pack",
         options: &["--output", "--force", "--hex", "--unchecked"],
@@ -40,6 +41,7 @@ const COMMANDS: [Command; 11] = [
     Command { name: "match", options: &[], run: matching::check },
     Command { name: "turn", options: MIGRATES, run: matching::turn },
     Command { name: "same-path", options: &[], run: same_path::run },
+    Command { name: "why", options: &[], run: why::run },
     Command { name: "draw", options: FILES, run: draw::run },
     Command { name: "version", options: &[], run: version::run },
 ];

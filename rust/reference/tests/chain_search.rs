@@ -1,0 +1,148 @@
+//! The search for a chain of steps, request C-11 of document 02, against trying
+//! all chains of few steps.
+
+mod common;
+
+use common::*;
+use reference::paths::all_paths;
+use reference::plain::*;
+use reference::*;
+use vectors::random::Random;
+
+/// One of all paths, rather a longer one.
+fn any_path(random: &mut Random, schema: &Schema) -> Path {
+    let paths = all_paths(schema);
+    let [one, other, third] = [(); 3].map(|_| random.one_of(&paths));
+    one.max(other).max(third).clone()
+}
+
+/// A small schema without loops, its nodes in any order.  Equations may have
+/// trivial or identical sides, or come twice.
+fn any_schema(random: &mut Random) -> Schema {
+    let count = 2 + random.below(3);
+    let nodes: Vec<usize> = random.shuffled((0..count).collect());
+    let edge = |_| {
+        let target = 1 + random.below(nodes.len() - 1);
+        (nodes[random.below(target)], nodes[target])
+    };
+    let edges: Vec<(usize, usize)> = (0..8).map(edge).collect();
+    let mut schema = graph(nodes.len(), &edges[..2 + random.below(7)]);
+    for _ in 0..random.below(9) {
+        let left = any_path(random, &schema);
+        let right = random.one_of(&alongside(&schema, &left)).clone();
+        schema.equations.push(Equation { left, right });
+    }
+    schema
+}
+
+/// The paths with the start and the end of `p`, itself among them.
+fn alongside(schema: &Schema, p: &Path) -> Vec<Path> {
+    let ends = |q: &Path| (q.start, q.end(schema));
+    all_paths(schema).into_iter().filter(|q| ends(q) == ends(p)).collect()
+}
+
+/// The path that a step by its numbers makes of `p`, or none.
+fn after_step(schema: &Schema, p: &Path, [equation, direction, before]: Numbers) -> Option<Path> {
+    let rule = &schema.equations[equation];
+    let (old, new) = [(&rule.left, &rule.right), (&rule.right, &rule.left)][direction];
+    let head = path(p.start, p.edges.get(..before)?);
+    let part = p.edges.get(before..before + old.edges.len())?;
+    let tail = &p.edges[before + old.edges.len()..];
+    let is_there = head.end(schema) == Some(old.start) && part == old.edges;
+    is_there.then(|| path(p.start, &[&head.edges, &new.edges, tail].concat()))
+}
+
+/// The numbers that a step may have, in their order.
+fn all_numbers(schema: &Schema) -> Vec<Numbers> {
+    let mut all = Vec::new();
+    for equation in 0..schema.equations.len() {
+        for direction in 0..2 {
+            all.extend((0..16).map(|before| [equation, direction, before]));
+        }
+    }
+    all
+}
+
+/// All chains of one step more, in the order of their numbers, each with the
+/// path that it leads to.
+fn longer(schema: &Schema, chains: &[(Vec<Numbers>, Path)]) -> Vec<(Vec<Numbers>, Path)> {
+    let mut all = Vec::new();
+    for (steps, end) in chains {
+        for step in all_numbers(schema) {
+            let next = after_step(schema, end, step);
+            all.extend(next.map(|next| ([&steps[..], &[step]].concat(), next)));
+        }
+    }
+    all
+}
+
+/// The paths that some chain leads to from `p`: more are added until there is
+/// none to add.
+fn reached(schema: &Schema, p: &Path) -> Vec<Path> {
+    let mut found = vec![p.clone()];
+    let mut at = 0;
+    while at < found.len() {
+        for step in all_numbers(schema) {
+            let next = after_step(schema, &found[at], step);
+            found.extend(next.filter(|next| !found.contains(next)));
+        }
+        at += 1;
+    }
+    found
+}
+
+#[test]
+fn the_search_agrees_with_trying_all_chains() {
+    const MOST_STEPS: usize = 4;
+    let mut random = Random::seeded(20);
+    let (mut nones, mut longer_ones, mut ties, mut by_steps) = (0, 0, 0, [0; MOST_STEPS + 1]);
+    for _ in 0..1500 {
+        let s = any_schema(&mut random);
+        let p = any_path(&mut random, &s);
+        let equal = reached(&s, &p);
+        // All chains from p of 0, 1, 2, ... steps.
+        let mut chains = vec![vec![(vec![], p.clone())]];
+        for steps in 0..MOST_STEPS {
+            chains.push(longer(&s, &chains[steps]));
+        }
+        for q in all_paths(&s) {
+            let given = chain(&s, &p, &q).expect("accepted sheets");
+            let to_q = |all: &Vec<(Vec<Numbers>, Path)>| -> Vec<Vec<Numbers>> {
+                let ending_there = all.iter().filter(|(_, end)| *end == q);
+                ending_there.map(|(steps, _)| steps.clone()).collect()
+            };
+            let shortest = chains.iter().map(to_q).find(|some| !some.is_empty());
+            match (shortest, given) {
+                (Some(shortest), given) => {
+                    assert!(shortest.windows(2).all(|pair| pair[0] < pair[1]));
+                    assert_eq!(given, Some(written(&shortest[0])), "{s:?} {p:?} {q:?}");
+                    by_steps[shortest[0].len()] += 1;
+                    ties += usize::from(shortest.len() > 1);
+                }
+                (None, Some(given)) => {
+                    assert!(equal.contains(&q), "{s:?} {p:?} {q:?}");
+                    assert!(usize::from(given[0]) > MOST_STEPS, "{s:?} {p:?} {q:?}");
+                    longer_ones += 1;
+                }
+                (None, None) => {
+                    assert!(!equal.contains(&q), "{s:?} {p:?} {q:?}");
+                    nones += 1;
+                }
+            }
+        }
+    }
+    println!("none {nones}, by steps {by_steps:?}, longer {longer_ones}, ties {ties}");
+    assert!(nones > 1000 && ties > 100 && by_steps.iter().all(|&cases| cases > 20));
+}
+
+#[test]
+fn there_is_a_chain_exactly_for_the_same_path() {
+    let mut random = Random::seeded(11);
+    for _ in 0..300 {
+        let s = any_schema(&mut random);
+        let p = any_path(&mut random, &s);
+        let q = random.one_of(&alongside(&s, &p)).clone();
+        let same = same_path(&s.to_sheet(), &p.to_sheet(), &q.to_sheet());
+        assert_eq!(chain(&s, &p, &q).map(|given| given.is_some()), same);
+    }
+}
