@@ -2,7 +2,7 @@
  * the run's rows, check them and push them. The rows come from numbers in memory, by prepared statements with bound values. They are checked by
  * constraints (a link leads to a row that is there, a value is one of its kind) and by a question for each equation, which must give no row.
  * Everything is prepared once and runs in one transaction, into tables that the run before has filled and that were emptied since, outside the time.
- * The least times of 300 runs are printed. Then rows with a broken link, a value out of range and a broken equation must be refused.
+ * The least times of 300 runs are printed. Then rows with a broken link, a value too small, one too large and a broken equation must be refused.
  * The argument is a folder with the files that `bench sql` writes. */
 #define _POSIX_C_SOURCE 199309L
 #include <sqlite3.h>
@@ -154,18 +154,18 @@ int main(int argc, char **argv) {
         sqlite3_reset(differing.statements[0]);
     }
 
-    static const char *const mistakes[] = {"link.rows", "value.rows", "equation.rows"};
-    static const int codes[] = {SQLITE_CONSTRAINT_FOREIGNKEY, SQLITE_CONSTRAINT_CHECK, BROKEN_EQUATION};
+    static const char *const mistakes[] = {"link.rows", "below.rows", "above.rows", "equation.rows"};
+    static const int codes[] = {SQLITE_CONSTRAINT_FOREIGNKEY, SQLITE_CONSTRAINT_CHECK, SQLITE_CONSTRAINT_CHECK, BROKEN_EQUATION};
     run(&clear);
     run(&unload);
-    for (int i = 0; i < 3; i++) {
+    for (int i = 0; i < 4; i++) {
         struct rows broken = rows_of(text_of(folder, mistakes[i]), &loads);
         run(&begin);
         int code = load(&loads, &broken);
         refused(mistakes[i], code == SQLITE_OK ? run(&checks) : code, codes[i]);
         run(&rollback);
     }
-    printf("push %.0f ns; load, check and push %.0f ns; SQLite %s; the rows are Sigma's; a broken link, a value out of range and a broken "
+    printf("push %.0f ns; load, check and push %.0f ns; SQLite %s; the rows are Sigma's; a broken link, values out of range and a broken "
            "equation are refused\n",
            least[0], least[1], sqlite3_libversion());
     return 0;

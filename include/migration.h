@@ -11,8 +11,18 @@
  *   matching    for each row, tables in order, the row of its partner 9
  *   chain       steps 8; each step: equation 5, direction 1 (0 left side to right, 1 back), edges before the replaced part 4, counted in
  *               the path as it stands before that step
- * Everything is numbered from 0, the kinds of attributes as docs/sheet/schema.md lists them. The tool `sheet` makes sheets from readable
- * text (docs/sheet/commands.md).
+ * Everything is numbered from 0. The tool `sheet` makes sheets from readable text (docs/sheet/commands.md).
+ *
+ * The kinds of attributes, each with its smallest and its largest value:
+ *    0 plain                          0 to 4294967295         8 pressure in kPa              0 to 25000
+ *    1 station in mm                  0 to 4294967295         9 temperature in 0.1 K         0 to 4000
+ *    2 clock in minutes               1 to 720               10 day                          0 to 65535
+ *    3 depth in thousandths of wall   0 to 1000              11 second in seconds of day     0 to 86399
+ *    4 length in mm                   0 to 20000             12 speed in mm/s                0 to 10000
+ *    5 width in mm                    0 to 5000              13 identifier                   0 to 4294967295
+ *    6 wall in 0.01 mm                0 to 5000              14 flag                         0 to 1
+ *    7 diameter in mm                 0 to 1600              15 unused                       0 to 0
+ * On a clock 720 is twelve o'clock, 14 is 12:14, and 0 is off scale.
  *
  * A pointer may be null only where its length is 0. Two lent byte strings may overlap, unless one of them is a tray.
  *
@@ -51,7 +61,7 @@ enum {
     MIGRATION_MISFIT = 7,       /* an image is missing, does not join, has the wrong end, another kind or another node */
     MIGRATION_BROKEN_RULE = 8,  /* an equation of S has unequal images in T */
     MIGRATION_DANGLING = 9,     /* a target row at or beyond its table's count */
-    MIGRATION_OFF_SCALE = 10,   /* a value above its kind's largest */
+    MIGRATION_OFF_SCALE = 10,   /* a value below its kind's smallest or above its largest */
     MIGRATION_BENT_ROW = 11,    /* a row where the two sides of an equation lead to different rows */
     MIGRATION_UNEVEN = 12,      /* Sigma, a checker or a turning, and the mapping is not even */
     MIGRATION_UNPAIRED = 13,    /* Pi, and the attribute mapping is not a bijection */

@@ -28,7 +28,7 @@ use Rattle.meaning.specs.Evenness.{even}
 use Rattle.meaning.specs.Sigma.{sigma}
 use Rattle.meaning.specs.Pi.{isBijective, components, hasFewComponents, pi}
 use Rattle.meaning.specs.Calls.{Outcome, refused, accepted, _>>=_, ensure, ensureFits, samePath, explanation, pathChain, Migrated, deltaTables, sigmaTables, piTables, Lent, inTray}
-use Rattle.meaning.proofs.Lists.{no-bool, test-false, upto-all, of-upto}
+use Rattle.meaning.proofs.Lists.{no-bool, test-false, all-fails, upto-all, of-upto}
 use Rattle.meaning.proofs.Readers.{sound-same, bind-sound, ensure-sound}
 use Rattle.meaning.proofs.Facts.{schema-facts}
 use Rattle.meaning.proofs.Written.{chain-sheet-length, chain-read}
@@ -62,14 +62,6 @@ false-iff true h = (λ e a. no-bool e, λ n. absurd (n (h .0 refl)))
 false-iff false h = (λ e a. no-bool (sym (h .1 a)), λ n. refl)
 
 -- ---- what they count
-
-all-fails : {A : Type 0} (f : A → Bool) (l : List A) → all f l ≡ false → (a : A) × List·Memᴰ a l × (f a ≡ false)
-all-fails f [] e = absurd (no-bool e)
-all-fails {A} f (x ∷ l) e = go (f x) refl e (all-fails f l)
-  where
-    go : (b : Bool) → f x ≡ b → (b && all f l) ≡ false → (all f l ≡ false → (a : A) × List·Memᴰ a l × (f a ≡ false)) → (a : A) × List·Memᴰ a (x ∷ l) × (f a ≡ false)
-    go true p e below = let r = below e in (r .0, List·Memᴰ·tail (r .1), r .2)
-    go false p e below = (x, List·Memᴰ·head refl, p)
 
 module _ {S T : Schema} {F : Mapping} (v : ValidMapping S T F) where
   abbrev few : ℕ → Bool

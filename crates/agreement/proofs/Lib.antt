@@ -5,6 +5,7 @@ pub mod Steps
 pub mod Distances
 pub mod FirstChains
 pub mod Classes
+pub mod Ranges
 pub mod Instances
 pub mod Sheets
 pub mod Tables

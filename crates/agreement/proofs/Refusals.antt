@@ -1,6 +1,6 @@
 -- Each kind of sheet is decided by its tests (specs/SheetTests.antt): the judge's refusal is that of the first test that fails. Readers refuse
--- with 1, 2 and 3 only, so that 6 is given exactly for too many paths.
-use Prim.Native.Nat.{ℕ, zero, suc, _+_, _*_, _<_}
+-- with 1, 2 and 3 only, so that 6 is given exactly for too many paths, and 10 exactly for a value off scale.
+use Prim.Native.Nat.{ℕ, zero, suc, _+_, _*_, _<_, _≤_}
 use mathlib.Core.Path.{_≡_, refl, sym, ap, _∙_, subst}
 use mathlib.Core.Bool.{Bool, true, false, cond, not}
 use mathlib.Core.List.{List, [], _∷_}
@@ -12,15 +12,18 @@ use borrow.Author.Tests.{leb-false, lt-leb}
 use Rattle.bits.specs.Field as bits
 use Rattle.meaning.specs.Lists.{sumOf}
 use Rattle.meaning.specs.Schema.{Graph, Schema, isPath, allPaths, hasLoop}
-use Rattle.meaning.specs.Sheet.{Read, fails, reads, Reader, after, _>>=_, give, times, inTurn, field, ensure, finish, Judged, faulty, sound, judged}
-use Rattle.meaning.specs.Formats.{Counts, Mapping, Instance, maxPaths, maxRows, countsInLimits, readEdges, readPath, readCounts, readEdge, readAttribute, readEquation, readLists, readSchema, readMapping, readLinks, readValues, readTables, kinds}
+use Rattle.meaning.specs.Sheet.{Read, fails, reads, Reader, after, _>>=_, give, times, inTurn, field, ensure, finish, Judged, faulty, sound, judged, onSheet}
+use Rattle.meaning.specs.Formats.{Counts, Mapping, Instance, maxPaths, maxRows, countsInLimits, readEdges, readPath, readCounts, readEdge, readAttribute, readEquation, readLists, readSchema, readMapping, readLinks, readValues, readTables, readInstance, kinds}
 use Rattle.meaning.specs.Judge as judge
-use Rattle.meaning.specs.Judge.{isWellFormed, hasFewPaths, testSchema, judgeSchema, judgePath, judgeMapping, judgeInstance, imagesFit, keepsEquations, linksInRange, valuesInRange, obeysEquations}
+use Rattle.meaning.specs.Judge.{isWellFormed, hasFewPaths, testSchema, judgeSchema, judgePath, judgeMapping, testInstance, judgeInstance, imagesFit, keepsEquations, linksInRange, valuesInRange, obeysEquations}
 use Rattle.meaning.specs.Matching.{isMatching, judgeMatching}
 use Rattle.meaning.specs.Calls.{refused, at}
 use Rattle.meaning.proofs.Lists.{no-bool}
 use Rattle.meaning.proofs.Readers.{sound-same}
+use Rattle.meaning.proofs.Facts.{instance-shaped}
 use Rattle.agreement.specs.Paths.{Crowded}
+use Rattle.agreement.specs.Valid.{OffScale}
+use Rattle.agreement.proofs.Instances.{links-iff, beyond-iff}
 use Rattle.agreement.specs.Tests.{Refusal, Tests, done, test, Decides, holds}
 use Rattle.agreement.proofs.Tests.{decides-as}
 use Rattle.agreement.specs.SheetTests.{matchingTests, instanceTests, readLinksValues, mappingTests, readImages, schemaTests, pathTests, whatRead}
@@ -165,6 +168,18 @@ module _ {A : Type 0} where
   sound-not-faulty : {n : ℕ} {a : A} → _≡_ {A = Judged A} (sound a) (faulty n) → ⊥
   sound-not-faulty e = let w : _≡_ {A = ℕ} 0 1 = cc in omega arith
 
+-- a number from 4 up is given exactly where the sheet is read as something whose tests give it
+module _ {A : Type 0} {m : Reader A} (low : RefusesIn (λ n. n < 4) m) (test : A → Judged A) (n : ℕ) (high : 4 ≤ n) (s : List ℕ) where
+  given-iff : (judge._>>=_ (onSheet m s) test ≡ faulty n) ↔ ((a : A) × (onSheet m s ≡ sound a) × (test a ≡ faulty n))
+  given-iff = go (m s 0) refl
+    where
+      go : (r : Read A) → m s 0 ≡ r → (judge._>>=_ (judged r) test ≡ faulty n) ↔ ((a : A) × (onSheet m s ≡ sound a) × (test a ≡ faulty n))
+      go (fails k) e = (
+        λ f. let h = low .so s 0 e in let l = faulty-same f in absurd (omega arith),
+        λ x. absurd (sound-not-faulty (sym (x .1) ∙ ap judged e)),
+      )
+      go (reads a q) e = (λ f. (a, ap judged e, f), λ x. subst (λ (b : A). test b ≡ faulty n) (sound-same (sym (x .1) ∙ ap judged e)) (x .2))
+
 -- by the three tests
 abbrev tested : Schema → Bool → Bool → Bool → Judged Schema
 tested S a b c = judge._>>=_ (judge.ensure a 4) (λ _. judge._>>=_ (judge.ensure (not b) 5) (λ _. judge._>>=_ (judge.ensure c 6) (λ _. sound S)))
@@ -177,19 +192,17 @@ tested-iff S true false false = (λ e. (refl, refl, refl), λ h. refl)
 
 -- 6 is given exactly where the sheet reads as a well-formed schema without a loop that has more than 256 paths
 pub crowd-iff : (s : List ℕ) → (judgeSchema s ≡ faulty 6) ↔ ((S : Schema) × Crowded s S)
-crowd-iff s = go (readSchema s 0) refl
-  where
-    go : (r : Read Schema) → readSchema s 0 ≡ r → (judge._>>=_ (judged r) testSchema ≡ faulty 6) ↔ ((S : Schema) × Crowded s S)
-    go (fails n) e = (
-      λ k. let h = low-schema .so s 0 e in let l = faulty-same k in absurd (omega arith),
-      λ x. absurd (sound-not-faulty (sym (x .1 .reads) ∙ ap judged e)),
-    )
-    go (reads S q) e = (
-      λ k. let t = tested-iff S (isWellFormed S) (hasLoop (S .graph)) (hasFewPaths (S .graph)) .0 k in
-          (S, record { reads = ap judged e; formed = record { fits = t .0; acyclic = t .1 }; crowd = leb-false (length (allPaths (S .graph))) maxPaths (t .2) }),
-      λ x. subst (λ (R : Schema). testSchema R ≡ faulty 6) (sound-same (sym (x .1 .reads) ∙ ap judged e))
-          (tested-iff (x .0) (isWellFormed (x .0)) (hasLoop (x .0 .graph)) (hasFewPaths (x .0 .graph)) .1
-          (x .1 .formed .fits, x .1 .formed .acyclic, lt-leb (length (allPaths (x .0 .graph))) maxPaths (x .1 .crowd))),
+crowd-iff s =
+    let g = given-iff low-schema testSchema 6 (omega arith) s in (
+      λ f.
+          let x = g .0 f in
+          let S = x .0 in
+          let t = tested-iff S (isWellFormed S) (hasLoop (S .graph)) (hasFewPaths (S .graph)) .0 (x .2) in
+          (S, record { reads = x .1; formed = record { fits = t .0; acyclic = t .1 }; crowd = leb-false (length (allPaths (S .graph))) maxPaths (t .2) }),
+      λ x.
+          let S = x .0 in
+          let t = tested-iff S (isWellFormed S) (hasLoop (S .graph)) (hasFewPaths (S .graph)) in
+          g .1 (S, x .1 .reads, t .1 (x .1 .formed .fits, x .1 .formed .acyclic, lt-leb (length (allPaths (S .graph))) maxPaths (x .1 .crowd))),
     )
 
 -- ---- readers in a row, regrouped
@@ -232,11 +245,14 @@ mapping-decided place S T s =
     tests F = judge._>>=_ (judge.ensure (imagesFit S T F) 7) (λ _. judge._>>=_ (judge.ensure (keepsEquations S T F) 8) (λ _. sound F))
 
 -- ---- instance
+cuts-links : (S : Schema) (counts : List ℕ) → Cuts (readLinks S counts)
+cuts-links S counts = refuses-inTurn (S .graph .edges) (λ e. refuses-times (getD counts (e .source) 0) (cuts-field 9))
+
+cuts-values : (S : Schema) (counts : List ℕ) → Cuts (readValues S counts)
+cuts-values S counts = refuses-inTurn (S .attributes) (λ a. refuses-times (getD counts (a .node) 0) (cuts-field 32))
+
 cuts-linksValues : (S : Schema) (counts : List ℕ) → Cuts (readLinksValues S counts)
-cuts-linksValues S counts =
-    refuses-bind (refuses-inTurn (S .graph .edges) (λ e. refuses-times (getD counts (e .source) 0) (cuts-field 9))) (λ ls.
-    refuses-bind (refuses-inTurn (S .attributes) (λ a. refuses-times (getD counts (a .node) 0) (cuts-field 32))) (λ vs.
-    refuses-give))
+cuts-linksValues S counts = refuses-bind (cuts-links S counts) (λ ls. refuses-bind (cuts-values S counts) (λ vs. refuses-give))
 
 linksValues-finished : (S : Schema) (counts s : List ℕ) (p : ℕ) → after s (readLinksValues S counts s p) finished ≡ readTables S counts s p
 linksValues-finished S counts s p = after-after s (readLinks S counts s p) _ _ _ (λ ls p. after-after s (readValues S counts s p) _ _ _ (λ vs p. refl))
@@ -259,6 +275,42 @@ instance-decided place S s =
         judge._>>=_ (judge.ensure (valuesInRange kinds S I) 10) (λ _.
         judge._>>=_ (judge.ensure (obeysEquations S I) 11) (λ _.
         sound I)))
+
+-- ---- refusal 10
+
+low-instance : (S : Schema) → RefusesIn (λ n. n < 4) (readInstance S)
+low-instance S =
+    refuses-bind (low-cuts (refuses-times (S .graph .nodes) (cuts-field 10))) (λ counts.
+    refuses-bind (low-ensure (leb (sumOf counts) maxRows) 3 (omega arith)) (λ _.
+    refuses-bind (low-cuts (cuts-links S counts)) (λ ls.
+    refuses-bind (low-cuts (cuts-values S counts)) (λ vs.
+    refuses-bind low-finish (λ _.
+    refuses-give)))))
+
+-- by the three tests
+ranged-iff : (I : Instance) (a b c : Bool)
+    → (judge._>>=_ (judge.ensure a 9) (λ _. judge._>>=_ (judge.ensure b 10) (λ _. judge._>>=_ (judge.ensure c 11) (λ _. sound I))) ≡ faulty 10) ↔ ((a ≡ true) × (b ≡ false))
+ranged-iff I false b c = (λ e. let k = faulty-same e in absurd (omega arith), λ h. absurd (no-bool (sym (h .0))))
+ranged-iff I true false c = (λ e. (refl, refl), λ h. refl)
+ranged-iff I true true false = (λ e. let k = faulty-same e in absurd (omega arith), λ h. absurd (no-bool (h .1)))
+ranged-iff I true true true = (λ e. absurd (sound-not-faulty e), λ h. absurd (no-bool (h .1)))
+
+-- 10 is given exactly where the sheet reads as an instance whose links are in range, with a value below its kind's smallest or above its largest
+pub off-scale-iff : (S : Schema) (s : List ℕ) → (judgeInstance S s ≡ faulty 10) ↔ ((I : Instance) × OffScale S s I)
+off-scale-iff S s =
+    let g = given-iff (low-instance S) (testInstance S) 10 (omega arith) s in (
+      λ f.
+          let x = g .0 f in
+          let I = x .0 in
+          let is = instance-shaped S s (x .1) in
+          let t = ranged-iff I (linksInRange S I) (valuesInRange kinds S I) (obeysEquations S I) .0 (x .2) in
+          (I, record { reads = x .1; links = links-iff kinds S I is .0 (t .0); value = beyond-iff kinds S I is .0 (t .1) }),
+      λ x.
+          let I = x .0 in
+          let is = instance-shaped S s (x .1 .reads) in
+          let t = ranged-iff I (linksInRange S I) (valuesInRange kinds S I) (obeysEquations S I) in
+          g .1 (I, x .1 .reads, t .1 (links-iff kinds S I is .1 (x .1 .links), beyond-iff kinds S I is .1 (x .1 .value))),
+    )
 
 -- ---- matching
 pub matching-decided : (place : ℕ) (S : Schema) (A B : Instance) (s : List ℕ) → Decides (matchingTests place S A B s) (at place (judgeMatching S A B s))

@@ -2,6 +2,7 @@
 use Prim.Native.Nat.{ℕ, _<_, _≤_}
 use mathlib.Core.Path.{_≡_}
 use mathlib.Core.List.{List}
+use mathlib.Core.Logic.{_⊎_}
 use lib.ListN.{length, getD}
 use Rattle.theory.specs.Schema as theorySchema
 use Rattle.theory.specs.Schema.{IsPath, Chain, endpoint}
@@ -11,13 +12,14 @@ use Rattle.theory.specs.Mapping as theoryMapping
 use Rattle.theory.specs.Mapping.{IsMapping, image}
 use Rattle.meaning.specs.Lists.{sumOf}
 use Rattle.meaning.specs.Schema.{Schema}
-use Rattle.meaning.specs.Formats.{Mapping, Instance, maxRows, kinds}
+use Rattle.meaning.specs.Sheet.{sound, onSheet}
+use Rattle.meaning.specs.Formats.{Mapping, Instance, readInstance, maxRows, fromTo, Kinds, kinds}
 use Rattle.meaning.specs.Views.{Shaped, schemaOf, mappingOf, instanceOf}
 use Rattle.agreement.specs.Paths.{WellFormed}
 
--- v is a value of kind k, by the list ks of each kind's largest
-abbrev pub InRange : List ℕ → ℕ → ℕ → Type 0
-InRange ks k v = v ≤ getD ks k 0
+-- v is a value of kind k, by the list ks of kinds: not below its smallest, and not above its largest
+abbrev pub InRange : Kinds → ℕ → ℕ → Type 0
+InRange ks k v = (getD ks k (fromTo 0 0) .smallest ≤ v) × (v ≤ getD ks k (fromTo 0 0) .largest)
 
 pub record ValidMapping (S T : Schema) (F : Mapping) : Type 0 where
   pub S-formed : WellFormed S
@@ -52,8 +54,22 @@ abbrev pub LinksIn : theorySchema.Schema → theoryInstance.Instance ℕ → Typ
 LinksIn S I = (e : ℕ) → e < S .edges → (x : ℕ) → x < I .count (S .src e) → I .link e x < I .count (S .tgt e)
 
 -- 10: each value is one of its kind
-abbrev pub ValuesIn : List ℕ → theorySchema.Schema → theoryInstance.Instance ℕ → Type 0
+abbrev pub ValuesIn : Kinds → theorySchema.Schema → theoryInstance.Instance ℕ → Type 0
 ValuesIn ks S I = (a : ℕ) → a < S .attributes → (x : ℕ) → x < I .count (S .home a) → InRange ks (S .kind a) (I .value a x)
+
+-- where it is not so: a value below its kind's smallest or above its largest
+pub record BeyondRange (ks : Kinds) (S : theorySchema.Schema) (I : theoryInstance.Instance ℕ) : Type 0 where
+  pub attribute : ℕ
+  pub attribute-in : attribute < S .attributes
+  pub row : ℕ
+  pub row-in : row < I .count (S .home attribute)
+  pub beyond : (I .value attribute row < getD ks (S .kind attribute) (fromTo 0 0) .smallest) ⊎ (getD ks (S .kind attribute) (fromTo 0 0) .largest < I .value attribute row)
+
+-- the sheet i reads as an instance I of S whose links are in range, with such a value
+pub record OffScale (S : Schema) (i : List ℕ) (I : Instance) : Type 0 where
+  pub reads : onSheet (readInstance S) i ≡ sound I
+  pub links : LinksIn (schemaOf S) (instanceOf I)
+  pub value : BeyondRange kinds (schemaOf S) (instanceOf I)
 
 -- 11: the two sides of each equation lead each row to the same row
 abbrev pub ObeysEquations : theorySchema.Schema → theoryInstance.Instance ℕ → Type 0

@@ -14,7 +14,7 @@ use Rattle.theory.specs.Schema.{endpoint}
 use Rattle.theory.proofs.Numbering.{tabulate-length, tabulate-getD}
 use Rattle.meaning.specs.Lists.{upto, all}
 use Rattle.meaning.specs.Schema.{Attribute, Equation, attributeAt, source, target, joins}
-use Rattle.meaning.specs.Formats.{Instance, inRange}
+use Rattle.meaning.specs.Formats.{Kinds, Instance, inRange}
 use Rattle.meaning.specs.Views.{count, column, follow, rows}
 use Rattle.meaning.specs.Judge.{linksInRange, valuesInRange}
 use Rattle.meaning.proofs.Tabulate.{and-both, all-at, upto-tabulate, all-same}
@@ -59,13 +59,13 @@ module _ (t : Schema) (A : Sound t) (i : declared.Instance) (links values : List
   abbrev attribute : ℕ → Attribute
   attribute a = record { node = getD (t .node) a 0; kind = getD (t .kind) a 0 }
 
-  values-at : (ks : List ℕ) (a : ℕ) → a < t .attributes → all (inRange ks (attributeAt (schemaOf t) a .kind)) (column I a) ≡ valueTest (t .node) (t .kind) (i .counts) values ks a
+  values-at : (ks : Kinds) (a : ℕ) → a < t .attributes → all (inRange ks (attributeAt (schemaOf t) a .kind)) (column I a) ≡ valueTest (t .node) (t .kind) (i .counts) values ks a
   values-at ks a l =
       let b : attributeAt (schemaOf t) a ≡ attribute a = tabulate-getD (t .attributes) attribute _ a l in
       let d : column I a ≡ columnOf values (512 * a) (rowsOf (t .node) (i .counts) a) = tabulate-getD (t .attributes) (λ k. columnOf values (512 * k) (rowsOf (t .node) (i .counts) k)) [] a l in
       ap₂ (λ (x : Attribute) (xs : List ℕ). all (inRange ks (x .kind)) xs) b d
 
-  pub values-test : (ks : List ℕ) → valuesInRange ks (schemaOf t) I ≡ all (valueTest (t .node) (t .kind) (i .counts) values ks) (tabulate (t .attributes) (λ a. a))
+  pub values-test : (ks : Kinds) → valuesInRange ks (schemaOf t) I ≡ all (valueTest (t .node) (t .kind) (i .counts) values ks) (tabulate (t .attributes) (λ a. a))
   values-test ks =
       rw (tabulate-length (t .attributes) attribute, upto-tabulate (t .attributes))
       (all-same _ _ (t .attributes) (λ a. a) (λ a. a) (values-at ks))

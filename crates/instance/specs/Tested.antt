@@ -8,7 +8,7 @@ use lib.ListN.{getD}
 use Rattle.meaning.specs.Lists.{all}
 use Rattle.meaning.specs.Sheet.{Judged}
 use Rattle.meaning.specs.Formats as formats
-use Rattle.meaning.specs.Formats.{kinds, inRange}
+use Rattle.meaning.specs.Formats.{Kinds, kinds, inRange}
 use Rattle.meaning.specs.Judge.{linksInRange, valuesInRange, obeysEquations}
 use Rattle.schema.specs.declared.Schema.{Schema}
 use Rattle.schema.specs.Decoded.{schemaOf}
@@ -20,7 +20,7 @@ abbrev pub linkTest : List ℕ → List ℕ → List ℕ → List ℕ → ℕ �
 linkTest source target counts links e = all (λ r. ltb r (rowsOf target counts e)) (columnOf links (512 * e) (rowsOf source counts e))
 
 -- the values of attribute a are of its kind
-abbrev pub valueTest : List ℕ → List ℕ → List ℕ → List ℕ → List ℕ → ℕ → Bool
+abbrev pub valueTest : List ℕ → List ℕ → List ℕ → List ℕ → Kinds → ℕ → Bool
 valueTest node kind counts values ks a = all (inRange ks (getD kind a 0)) (columnOf values (512 * a) (rowsOf node counts a))
 
 -- ---- of a whole instance

@@ -67,8 +67,7 @@ fn tested(schema: Schema, instance: Instance, links: &[u32], values: &[u32]) -> 
     ensures { λ r. ⌜ Tested schema r (now (links .entry)) (now (values .entry)) (testInstance (schemaOf schema) (tablesOf schema instance (now (links .entry)) (now (values .entry)))) ⌝ }
 {
     if range::links_in_range(schema, instance, links) {
-        let largest = kinds::kinds();
-        if range::values_in_range(schema, instance, values, &largest) {
+        if range::values_in_range(schema, instance, values, kinds::kinds()) {
             if follow::obeys_equations(schema, instance, links) {
                 return instance;
             }

@@ -2,7 +2,9 @@
 use crate::Instance;
 use crate::decode::rows_of;
 use crate::decode::wide;
-use crate::kinds::in_range;
+use crate::kinds::Range;
+use crate::kinds::range_of;
+use crate::kinds::within;
 use schema::Schema;
 ghost use mathlib.Core.Path.{_≡_};
 ghost use mathlib.Core.List.{[]};
@@ -11,11 +13,13 @@ ghost use lib.Dec.{ltb};
 ghost use lib.ListN.{length};
 ghost use Rattle.theory.specs.Numbering.{tabulate};
 ghost use Rattle.meaning.specs.Lists.{all};
-ghost use Rattle.meaning.specs.Formats.{maxRows, inRange};
+ghost use Rattle.meaning.specs.Formats.{maxRows};
+ghost use Rattle.meaning.specs.Formats as formats;
 ghost use Rattle.meaning.specs.Judge.{linksInRange, valuesInRange};
 ghost use Rattle.schema.specs.Decoded.{schemaOf};
 ghost use Rattle.schema.specs.Judged.{Sound};
 ghost use Rattle.instance.specs.Decoded.{columnOf, tablesOf, Columns, Limits};
+ghost use Rattle.instance.specs.Ranges.{rangeOf, kindsOf};
 ghost use Rattle.instance.specs.Tested.{linkTest, valueTest};
 
 // Whether n numbers from base on are below a bound.
@@ -33,20 +37,18 @@ pub fn column_below(l: &[u32], base: usize, n: usize, bound: usize) -> bool
     true
 }
 
-// Whether n numbers from base on are values of a kind.
-fn column_in_range(kinds: &[u32], kind: usize, l: &[u32], base: usize, n: usize) -> bool
+// Whether n numbers from base on are within a range.
+fn column_within(range: Range, l: &[u32], base: usize, n: usize) -> bool
     requires { ⌜ base + n ≤ length (now l) ⌝ }
-    ensures { λ r. ⌜ r ≡ all (inRange (now (kinds .entry)) kind) (columnOf (now (l .entry)) base n) ⌝ }
+    ensures { λ r. ⌜ r ≡ all (formats.within (rangeOf range)) (columnOf (now (l .entry)) base n) ⌝ }
 {
+    let mut so_far = true;
     let mut i = 0;
     while i < n {
-        if in_range(kinds, kind, l[base + i]) {
-            i += 1;
-        } else {
-            return false;
-        }
+        so_far = so_far & within(range, l[base + i]);
+        i += 1;
     }
-    true
+    so_far
 }
 
 // Whether the links along each of n edges are rows of its target.
@@ -74,15 +76,16 @@ fn columns_in_range(
     kind: &[u8],
     counts: &[u32],
     values: &[u32],
-    kinds: &[u32],
+    kinds: [Range; Range::KINDS],
 ) -> bool
     requires { ⌜ Columns n (now node) (now counts) × (n ≤ length (now kind)) × (maxRows * n ≤ length (now values)) ⌝ }
-    ensures { λ r. ⌜ r ≡ all (valueTest (now (node .entry)) (now (kind .entry)) (now (counts .entry)) (now (values .entry)) (now (kinds .entry))) (tabulate n (λ a. a)) ⌝ }
+    ensures { λ r. ⌜ r ≡ all (valueTest (now (node .entry)) (now (kind .entry)) (now (counts .entry)) (now (values .entry)) (kindsOf kinds)) (tabulate n (λ a. a)) ⌝ }
 {
     let mut a = 0;
     while a < n {
         let rows = rows_of(node, counts, a);
-        if column_in_range(kinds, kind[a] as usize, values, Instance::ROWS * a, rows) {
+        let range = range_of(kinds, kind[a] as usize);
+        if column_within(range, values, Instance::ROWS * a, rows) {
             a += 1;
         } else {
             return false;
@@ -104,9 +107,14 @@ pub fn links_in_range(schema: Schema, instance: Instance, links: &[u32]) -> bool
 }
 
 // Refusal 10 (off scale).
-pub fn values_in_range(schema: Schema, instance: Instance, values: &[u32], kinds: &[u32]) -> bool
+pub fn values_in_range(
+    schema: Schema,
+    instance: Instance,
+    values: &[u32],
+    kinds: [Range; Range::KINDS],
+) -> bool
     requires { ⌜ Sound schema × Limits schema instance × (maxRows * schema .attributes ≤ length (now values)) ⌝ }
-    ensures { λ r. ⌜ r ≡ valuesInRange (now (kinds .entry)) (schemaOf schema) (tablesOf schema instance [] (now (values .entry))) ⌝ }
+    ensures { λ r. ⌜ r ≡ valuesInRange (kindsOf kinds) (schemaOf schema) (tablesOf schema instance [] (now (values .entry))) ⌝ }
 {
     let node = schema.node;
     let kind = schema.kind;

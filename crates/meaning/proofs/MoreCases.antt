@@ -1,4 +1,4 @@
--- The other runs of document 01, its traps and its program, computed: a second table.
+-- The other runs of document 01, case 11 as document 02, C-12, has it, its traps and its program, computed: a second table.
 use Prim.Native.Nat.{ℕ}
 use Prim.Native.String.{String}
 use mathlib.Core.Path.{_≡_, refl}
@@ -80,8 +80,9 @@ moreCases =
     example "case 10: 257 paths" (check (checkSchema doubledChainAndEdge)) (refused 6 1) ∷
     example "case 11: 512 rows" (check (checkInstance point (0x80 ∷ 0x00 ∷ []))) (accepted checked) ∷
     example "case 11: 513 rows" (check (checkInstance point (0x80 ∷ 0x40 ∷ []))) (refused 3 2) ∷
-    example "case 11: clock 719" (check (checkInstance clock (0x00 ∷ 0x40 ∷ 0x00 ∷ 0x00 ∷ 0xB3 ∷ 0xC0 ∷ []))) (accepted checked) ∷
-    example "case 11: clock 720" (check (checkInstance clock (0x00 ∷ 0x40 ∷ 0x00 ∷ 0x00 ∷ 0xB4 ∷ 0x00 ∷ []))) (refused 10 2) ∷
+    example "case 11: clock 720" (check (checkInstance clock (0x00 ∷ 0x40 ∷ 0x00 ∷ 0x00 ∷ 0xB4 ∷ 0x00 ∷ []))) (accepted checked) ∷
+    example "case 11: clock 721" (check (checkInstance clock (0x00 ∷ 0x40 ∷ 0x00 ∷ 0x00 ∷ 0xB4 ∷ 0x40 ∷ []))) (refused 10 2) ∷
+    example "case 11: clock 0" (check (checkInstance clock (0x00 ∷ 0x40 ∷ 0x00 ∷ 0x00 ∷ 0x00 ∷ 0x00 ∷ []))) (refused 10 2) ∷
     example "case 12: 17 bytes" (lent (inTray (replicate 17 0) (sheetOf (sigmaTables vendor operator vendorToOperator run)))) (refused 16 0) ∷
     example "case 12: 18 bytes" (lent (inTray (replicate 18 0) (sheetOf (sigmaTables vendor operator vendorToOperator run)))) (accepted (bytes pushedRun)) ∷
     example "the base example printed" (prints (push ((0 ∷ 7 ∷ vendor) ++ (0 ∷ 5 ∷ operator) ++ (0 ∷ 5 ∷ vendorToOperator) ++ (0 ∷ 20 ∷ run))))

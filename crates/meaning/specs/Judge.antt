@@ -9,7 +9,7 @@ use Rattle.meaning.specs.Lists.{upto, all}
 use Rattle.meaning.specs.Schema.{Edge, Attribute, Path, Equation, Graph, Schema, source, target, attributeAt, end, joins, isPath, allPaths, hasLoop}
 use Rattle.meaning.specs.PathEquality.{equal}
 use Rattle.meaning.specs.Sheet.{Judged, faulty, sound, onSheet}
-use Rattle.meaning.specs.Formats.{Mapping, Instance, readPathSheet, readSchema, readMapping, readInstance, maxPaths, kinds, inRange}
+use Rattle.meaning.specs.Formats.{Mapping, Instance, readPathSheet, readSchema, readMapping, readInstance, maxPaths, Kinds, kinds, inRange}
 use Rattle.meaning.specs.Views.{nodeImage, edgeImage, attributeImage, pathImage, count, rows, column, follow}
 
 infixl 20 _>>=_
@@ -107,8 +107,8 @@ judgeMapping S T s = do
 abbrev pub linksInRange : Schema → Instance → Bool
 linksInRange S I = all (λ e. all (λ r. ltb r (count I (target (S .graph) e))) (getD (I .links) e [])) (upto (length (S .graph .edges)))
 
--- 10 (off scale)
-abbrev pub valuesInRange : List ℕ → Schema → Instance → Bool
+-- 10 (off scale): a value is in its kind's range
+abbrev pub valuesInRange : Kinds → Schema → Instance → Bool
 valuesInRange ks S I = all (λ a. all (inRange ks (attributeAt S a .kind)) (column I a)) (upto (length (S .attributes)))
 
 -- 11 (bent row): the two sides of an equation lead each row to the same row

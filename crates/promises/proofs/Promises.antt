@@ -13,9 +13,10 @@ use Rattle.agreement.proofs.Loops.{loop-iff, height-iff, height-one}
 use Rattle.agreement.proofs.Steps.{steps-agree}
 use Rattle.agreement.proofs.FirstChains.{chains-agree, first-chain-one}
 use Rattle.agreement.proofs.Mappings.{schema-well-formed, images-iff, keeps-iff}
+use Rattle.agreement.proofs.Ranges.{zero-in}
 use Rattle.agreement.proofs.Instances.{links-iff, values-iff, equations-iff}
 use Rattle.agreement.proofs.Tests.{refused-iff, accepted-iff, refused-in}
-use Rattle.agreement.proofs.Refusals.{crowd-iff}
+use Rattle.agreement.proofs.Refusals.{crowd-iff, off-scale-iff}
 use Rattle.agreement.proofs.Outcomes.{checkSchema-decided, checkMapping-decided, checkInstance-decided, samePath-decided, pathChain-answer, delta-answer, sigma-answer, pi-answer, checkPushed-decided, checkRaw-decided, pushedToRaw-answer, rawToPushed-answer, refused-tray, accepted-tray}
 use Rattle.agreement.proofs.Valid.{mapping-valid, instance-accepted-iff}
 use Rattle.agreement.proofs.Evenness.{even-iff}
@@ -29,7 +30,7 @@ use Rattle.agreement.proofs.Demand3.{demand3, provided-iff, unprovided-refused,
 use Rattle.agreement.proofs.Framing.{push-frames}
 use Rattle.migration.proofs.Demand3.{calls-demand3, calls-refuse, meanings-meet}
 use Rattle.migration.proofs.Encoding.{exports-say, results-within}
-use Rattle.promises.specs.Promises.{Demand-1, Demand-2, Demand-3, C-11, Program, Header}
+use Rattle.promises.specs.Promises.{Demand-1, Demand-2, Demand-3, C-11, C-12, Program, Header}
 
 pub demand-1 : Demand-1
 demand-1 = record {
@@ -105,6 +106,9 @@ c-11 = record {
   chain-answers = chain-answers;
   chain-one = λ s {S} e. first-chain-one S (schema-well-formed (schema-facts s e));
 }
+
+pub c-12 : C-12
+c-12 = record { clock = λ v. (λ is. is, λ is. is); others = zero-in; refusal-10 = off-scale-iff }
 
 pub program : Program
 program = record { push-frames = push-frames }

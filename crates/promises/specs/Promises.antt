@@ -36,7 +36,7 @@ use Rattle.agreement.specs.Paths.{WellFormed, SameStarts, Loop, IsHeight, Lists
 use Rattle.agreement.specs.PathChains.{StepsAgree, ChainsAgree, IsFirstChain, ChainAnswers}
 use Rattle.agreement.specs.Tests.{Refusal, Tests, FailsAt, Pass, Decides}
 use Rattle.agreement.specs.CallTests.{checkSchemaTests, checkMappingTests, checkInstanceTests, samePathTests, pathChainTests, deltaTests, sigmaTests, piTests, pushedTests, rawTests, trayTests, sheetTests, Result}
-use Rattle.agreement.specs.Valid.{ValidMapping, ValidInstance, ImagesFit, KeepsEquations, LinksIn, ValuesIn, ObeysEquations}
+use Rattle.agreement.specs.Valid.{ValidMapping, ValidInstance, InRange, ImagesFit, KeepsEquations, LinksIn, ValuesIn, OffScale, ObeysEquations}
 use Rattle.agreement.specs.Agrees.{SchemaAgrees, PathAnswers, Inputs, DeltaAgrees, DeltaAnswers, SigmaAgrees, SigmaAnswers, PiAgrees, PiAnswers}
 use Rattle.agreement.specs.Demand3.{Accepts, meaningAnswers, Provided, Clauses, AllRefuse}
 use Rattle.migration.specs.Demand3.{Calls, MeetsContracts, answers, meaningCalls}
@@ -157,6 +157,16 @@ pub record C-11 : Type 0 where
       → ChainAnswers s p q S P Q
   -- no other chain is the first
   pub chain-one : (s : List ℕ) {S : Schema} → judgeSchema s ≡ sound S → {p q : Path} {c d : List Step} → IsFirstChain S p q c → IsFirstChain S p q d → c ≡ d
+
+-- ---- Document 02, C-12: twelve o'clock is 720
+
+pub record C-12 : Type 0 where
+  -- "Kind 2 therefore runs from 1 to 720"; every other kind has 0, as before
+  pub clock : (v : ℕ) → InRange kinds 2 v ↔ ((1 ≤ v) × (v ≤ 720))
+  pub others : (k : ℕ) → (k ≡ 2 → ⊥) → InRange kinds k 0
+  -- "A kind now has a smallest value as well as a largest, and 10 is given below the one or above the other": exactly then, of a sheet that reads as
+  -- an instance and passes 9
+  pub refusal-10 : (S : Schema) (i : List ℕ) → (judgeInstance S i ≡ faulty 10) ↔ ((I : Instance) × OffScale S i I)
 
 -- ---- The push program
 

@@ -9,7 +9,7 @@ use vectors::full::{half_schema, rows, two_copies};
 /// result; what loads a row into each table of S, and the rows; what asks for a row
 /// where an equation does not hold; what pushes; what empties the tables of T, and
 /// those of S; a question for the number of rows that differ from Sigma's; and rows
-/// with a mistake each, a link, a value and an equation.
+/// with a mistake each, a link, a value too small, one too large, and an equation.
 pub fn files(total: usize) -> Vec<(&'static str, String)> {
     let t = half_schema();
     let (s, f) = two_copies(&t);
@@ -32,7 +32,7 @@ pub fn files(total: usize) -> Vec<(&'static str, String)> {
     let sources_first = targets_first.iter().rev();
     let rows = |&node: &usize| (0..run.rows[node]).map(|row| values(&s, &run, node, row)).collect();
     let loaded: Loaded = targets_first.iter().map(rows).collect();
-    let [link, value, equation] = mistakes(&loaded);
+    let [link, below, above, equation] = mistakes(&loaded);
     vec![
         ("setup.sql", setup.concat()),
         ("load.sql", targets_first.iter().map(|&node| load(&s, node)).collect()),
@@ -43,7 +43,8 @@ pub fn files(total: usize) -> Vec<(&'static str, String)> {
         ("differing.sql", format!("SELECT 0{differing};\n")),
         ("run.rows", text(&loaded)),
         ("link.rows", text(&link)),
-        ("value.rows", text(&value)),
+        ("below.rows", text(&below)),
+        ("above.rows", text(&above)),
         ("equation.rows", text(&equation)),
     ]
 }
@@ -61,20 +62,22 @@ fn targets_first(schema: &Schema) -> Vec<usize> {
 }
 
 /// For each table its rows, for each row its number, its links and its values.
-type Loaded = Vec<Vec<Vec<u64>>>;
+type Loaded = Vec<Vec<Vec<i64>>>;
 
-/// The rows with a link to a row that is not there, with a value beyond its kind's
-/// largest, and with a link to another row than its twin's.
-fn mistakes(loaded: &Loaded) -> [Loaded; 3] {
-    let with = |change: fn(&mut Vec<u64>, u64)| {
+/// The rows with a link to a row that is not there, with a value below the smallest
+/// of every kind, with one above the largest, and with a link to another row than its
+/// twin's.
+fn mistakes(loaded: &Loaded) -> [Loaded; 4] {
+    let with = |change: fn(&mut Vec<i64>, i64)| {
         let mut loaded = loaded.clone();
-        let count = loaded[0].len() as u64;
+        let count = loaded[0].len() as i64;
         // The tables have as many rows each, and the last one has links and a value.
         change(loaded.last_mut().and_then(|rows| rows.last_mut()).expect("a row"), count);
         loaded
     };
     [
         with(|row, count| row[1] = count),
+        with(|row, _| *row.last_mut().expect("a value") = -1),
         with(|row, _| *row.last_mut().expect("a value") = 1 << 32),
         with(|row, count| row[1] = (row[1] + 1) % count),
     ]
@@ -82,8 +85,8 @@ fn mistakes(loaded: &Loaded) -> [Loaded; 3] {
 
 /// The rows of all tables, each table after the number of its rows.
 fn text(loaded: &Loaded) -> String {
-    let words = |row: &Vec<u64>| row.iter().map(|n| format!("{n} ")).collect::<String>() + "\n";
-    let table = |rows: &Vec<Vec<u64>>| {
+    let words = |row: &Vec<i64>| row.iter().map(|n| format!("{n} ")).collect::<String>() + "\n";
+    let table = |rows: &Vec<Vec<i64>>| {
         format!("{}\n", rows.len()) + &rows.iter().map(words).collect::<String>()
     };
     loaded.iter().map(table).collect()
@@ -121,8 +124,8 @@ fn asked(schema: &Schema, column: Column) -> String {
     match column {
         Column::Link(edge) => format!(" NOT NULL REFERENCES s{}(row)", schema.edges[edge].target),
         Column::Value(a) => {
-            let largest = LARGEST_VALUES[schema.attributes[a].kind];
-            format!(" NOT NULL CHECK (v{a} BETWEEN 0 AND {largest})")
+            let (smallest, largest) = RANGES[schema.attributes[a].kind].clone().into_inner();
+            format!(" NOT NULL CHECK (v{a} BETWEEN {smallest} AND {largest})")
         }
     }
 }
@@ -141,12 +144,12 @@ fn table(name: &str, node: usize, schema: &Schema, asked: Asked) -> String {
     format!("CREATE TABLE {name}{node} (row INTEGER PRIMARY KEY{columns});\n")
 }
 
-fn values(schema: &Schema, run: &Instance, node: usize, row: usize) -> Vec<u64> {
+fn values(schema: &Schema, run: &Instance, node: usize, row: usize) -> Vec<i64> {
     let value = |column: Column| match column {
-        Column::Link(edge) => run.links[edge][row] as u64,
-        Column::Value(a) => u64::from(run.values[a][row]),
+        Column::Link(edge) => run.links[edge][row] as i64,
+        Column::Value(a) => i64::from(run.values[a][row]),
     };
-    [row as u64].into_iter().chain(columns(schema, node).into_iter().map(value)).collect()
+    [row as i64].into_iter().chain(columns(schema, node).into_iter().map(value)).collect()
 }
 
 /// The statement that loads a row.

@@ -11,6 +11,8 @@ use header::program::program;
 use header::read::Header;
 use header::trials::trials;
 use migration::Refusal;
+use reference::plain::RANGES;
+use sheet::kinds::KINDS;
 use std::collections::BTreeSet;
 use std::fs;
 use vectors::call::Call;
@@ -80,6 +82,27 @@ fn the_wrapper_has_the_same_words_and_sizes() {
         assert_eq!(header.value(name), Some(bytes as u64), "{name}");
         assert_eq!(bytes % 1024, 0, "{name}");
     }
+}
+
+/// A line of the header's kinds: the tool's name and unit, the reference's range.
+fn kind_line(number: usize) -> String {
+    let (smallest, largest) = RANGES[number].clone().into_inner();
+    let unit = match KINDS[number].unit {
+        "" => String::new(),
+        unit => format!(" in {unit}"),
+    };
+    format!("{number} {}{unit} {smallest} to {largest}", KINDS[number].name)
+}
+
+/// Kinds 0 to 7 stand on the left, 8 to 15 on the right.
+#[test]
+fn the_kinds_have_their_names_units_and_ranges() {
+    let text = header_text();
+    let lines = text.lines().skip_while(|line| !line.starts_with(" * The kinds of attributes"));
+    let lines = lines.skip(1).take_while(|line| line.starts_with(" *  "));
+    let lines = lines.map(|line| line.split_whitespace().skip(1).collect::<Vec<_>>().join(" "));
+    let kinds = (0..8).map(|left| format!("{} {}", kind_line(left), kind_line(left + 8)));
+    assert_eq!(lines.collect::<Vec<_>>(), kinds.collect::<Vec<_>>());
 }
 
 /// A function's name, and the type and the name of each parameter, as in C.

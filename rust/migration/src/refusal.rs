@@ -24,7 +24,8 @@ pub struct Refusal {
     pub place: u8,
 }
 
-/// Word and condition by number, as in document 01's table.
+/// Word and condition by number, as in document 01's table; 10 as request C-12 of
+/// document 02 has it.
 const TABLE: [(&str, &str); 17] = [
     ("cut", "the bits end before the last field does"),
     ("tail", "a filling bit is 1, or a byte follows"),
@@ -43,7 +44,7 @@ const TABLE: [(&str, &str); 17] = [
     ),
     ("broken rule", "an equation of S has unequal images in T"),
     ("dangling", "a target row at or beyond its table's count"),
-    ("off scale", "a value above its kind's largest"),
+    ("off scale", "a value below its kind's smallest or above its largest"),
     ("bent row", "a row where the two sides of an equation lead to different rows"),
     ("uneven", "Sigma, a checker or transposition, and the mapping is not even"),
     ("unpaired", "Pi, and the attribute mapping is not a bijection"),
@@ -69,7 +70,7 @@ impl Refusal {
         self.entry().0
     }
 
-    /// Document 01's condition for the number.
+    /// The condition for the number.
     ///
     /// ```
     /// let refusal = migration::Refusal { number: 17, place: 6 };

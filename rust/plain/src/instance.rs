@@ -9,10 +9,24 @@ const DANGLING: u8 = 9;
 const OFF_SCALE: u8 = 10;
 const BENT_ROW: u8 = 11;
 
-/// The largest value by kind.
-const LARGEST: [u32; 16] = [
-    4294967295, 4294967295, 719, 1000, 20000, 5000, 5000, 1600, 25000, 4000, 65535, 86399, 10000,
-    4294967295, 1, 0,
+/// The smallest and the largest value by kind.
+const RANGES: [(u32, u32); 16] = [
+    (0, 4294967295),
+    (0, 4294967295),
+    (1, 720),
+    (0, 1000),
+    (0, 20000),
+    (0, 5000),
+    (0, 5000),
+    (0, 1600),
+    (0, 25000),
+    (0, 4000),
+    (0, 65535),
+    (0, 86399),
+    (0, 10000),
+    (0, 4294967295),
+    (0, 1),
+    (0, 0),
 ];
 
 /// An accepted instance.
@@ -62,8 +76,9 @@ impl Instance {
             }
         }
         for (attribute, column) in schema.attributes.iter().zip(&self.values) {
-            let largest = LARGEST[usize::from(attribute.kind)];
-            if column.iter().any(|&value| value > largest) {
+            let (smallest, largest) = RANGES[usize::from(attribute.kind)];
+            // Below the smallest the difference wraps round, far beyond the largest's.
+            if column.iter().any(|&value| value.wrapping_sub(smallest) > largest - smallest) {
                 return Err(OFF_SCALE);
             }
         }

@@ -5,25 +5,30 @@ use crate::bits::{BitReader, BitWriter};
 use crate::paths::Path;
 use crate::refusal::{demand, Judged, BENT_ROW, COUNT, DANGLING, OFF_SCALE, OVERFULL};
 use crate::schema::{Equation, Schema};
+use std::ops::RangeInclusive;
 
-/// "Kinds and largest value (smallest 0)", by kind.
-pub const LARGEST_VALUES: [u32; 16] = [
-    4294967295, // 0 plain
-    4294967295, // 1 station in mm
-    719,        // 2 clock in minutes
-    1000,       // 3 depth in thousandths of wall
-    20000,      // 4 length mm
-    5000,       // 5 width mm
-    5000,       // 6 wall in 0.01 mm
-    1600,       // 7 diameter mm
-    25000,      // 8 pressure kPa
-    4000,       // 9 temperature 0.1 K
-    65535,      // 10 day
-    86399,      // 11 second of day
-    10000,      // 12 speed mm/s
-    4294967295, // 13 identifier
-    1,          // 14 flag
-    0,          // 15 unused
+/// Each kind's smallest and largest value, by kind.  Document 01 has "Kinds and
+/// largest value (smallest 0)" and a list, of which request C-12 of document 02
+/// changes one entry: "twelve o'clock is written 720 and never 0. Kind 2
+/// therefore runs from 1 to 720. A kind now has a smallest value as well as a
+/// largest".
+pub const RANGES: [RangeInclusive<u32>; 16] = [
+    0..=4294967295, // 0 plain
+    0..=4294967295, // 1 station in mm
+    1..=720,        // 2 clock in minutes
+    0..=1000,       // 3 depth in thousandths of wall
+    0..=20000,      // 4 length mm
+    0..=5000,       // 5 width mm
+    0..=5000,       // 6 wall in 0.01 mm
+    0..=1600,       // 7 diameter mm
+    0..=25000,      // 8 pressure kPa
+    0..=4000,       // 9 temperature 0.1 K
+    0..=65535,      // 10 day
+    0..=86399,      // 11 second of day
+    0..=10000,      // 12 speed mm/s
+    0..=4294967295, // 13 identifier
+    0..=1,          // 14 flag
+    0..=0,          // 15 unused
 ];
 
 /// A decoded instance sheet.
@@ -77,11 +82,12 @@ impl Instance {
         links.all(|(targets, edge)| targets.iter().all(|&row| row < self.rows[edge.target]))
     }
 
-    /// No "value above its kind's largest".
+    /// No value below its kind's smallest or above its kind's largest: "10 is
+    /// given below the one or above the other."
     fn is_on_scale(&self, schema: &Schema) -> bool {
         let mut columns = self.values.iter().zip(&schema.attributes);
         columns.all(|(values, attribute)| {
-            values.iter().all(|&value| value <= LARGEST_VALUES[attribute.kind])
+            values.iter().all(|&value| RANGES[attribute.kind].contains(&value))
         })
     }
 

@@ -1,6 +1,6 @@
 //! A naive reference implementation of document 01, "Delta, Sigma and Pi for
-//! inspection run records", and of request C-11 of document 02, "Which rules
-//! made these paths equal".
+//! inspection run records", and of requests C-11 and C-12 of document 02, "Which
+//! rules made these paths equal" and "Twelve o'clock is 720".
 //!
 //! It is written from the definitions, clarity before speed: equal paths are
 //! found by searching chains of steps, shortest chains by searching level by
@@ -44,7 +44,7 @@ pub use refusal::Refusal;
 /// has the `to_sheet` method alone.
 pub mod plain {
     pub use crate::chains::{Chain, Step};
-    pub use crate::instance::{Instance, LARGEST_VALUES};
+    pub use crate::instance::{Instance, RANGES};
     pub use crate::mapping::Mapping;
     pub use crate::matching::Matching;
     pub use crate::paths::Path;

@@ -35,7 +35,9 @@ pub const MISFIT: u8 = 7;
 pub const BROKEN_RULE: u8 = 8;
 /// "a target row at or beyond its table's count"
 pub const DANGLING: u8 = 9;
-/// "a value above its kind's largest"
+/// "a value above its kind's largest", and by request C-12 of document 02 one
+/// below its smallest too: "A kind now has a smallest value as well as a
+/// largest, and 10 is given below the one or above the other."
 pub const OFF_SCALE: u8 = 10;
 /// "a row where the two sides of an equation lead to different rows"
 pub const BENT_ROW: u8 = 11;

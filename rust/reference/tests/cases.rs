@@ -1,4 +1,5 @@
-//! Document 01's "Runs to check against", cases 1 to 12.
+//! Document 01's "Runs to check against", cases 1 to 12; case 11 as request C-12
+//! of document 02 has it.
 
 mod common;
 
@@ -114,18 +115,27 @@ fn case_10_as_many_paths_as_a_schema_may_have() {
 }
 
 #[test]
-fn case_11_as_many_rows_and_minutes_as_there_may_be() {
+fn case_11_as_many_rows_as_there_may_be() {
     let tables = |nodes: usize| graph(nodes, &[]).to_sheet();
     let rows = |rows: &[usize]| instance(rows, &[]).to_sheet();
     assert_eq!(check_instance(&tables(1), &rows(&[512])), Ok(()));
     assert_eq!(check_instance(&tables(1), &rows(&[513])), refused(3, 2));
     assert_eq!(check_instance(&tables(2), &rows(&[200, 312])), Ok(()));
     assert_eq!(check_instance(&tables(2), &rows(&[201, 312])), refused(3, 2));
+}
+
+#[test]
+fn case_11_a_clock_runs_from_1_to_720() {
     let mut clock = graph(1, &[]);
     clock.attributes.push(Attribute { node: 0, kind: 2 });
-    let at = |minutes| Instance { rows: vec![1], links: vec![], values: vec![vec![minutes]] };
-    assert_eq!(check_instance(&clock.to_sheet(), &at(719).to_sheet()), Ok(()));
-    assert_eq!(check_instance(&clock.to_sheet(), &at(720).to_sheet()), refused(10, 2));
+    let check = |minutes| {
+        let at = Instance { rows: vec![1], links: vec![], values: vec![vec![minutes]] };
+        check_instance(&clock.to_sheet(), &at.to_sheet())
+    };
+    assert_eq!(check(720), Ok(()));
+    assert_eq!(check(721), refused(10, 2));
+    assert_eq!(check(0), refused(10, 2));
+    assert_eq!(check(1), Ok(()));
 }
 
 #[test]

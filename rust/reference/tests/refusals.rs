@@ -169,9 +169,9 @@ fn misfits_and_broken_rules() {
 }
 
 #[test]
-fn dangling_rows_come_before_values_and_values_before_bent_rows() {
+fn dangling_rows_come_before_values_off_either_end_and_those_before_bent_rows() {
     let mut s = graph(2, &[(0, 1), (0, 1)]);
-    s.attributes.push(Attribute { node: 0, kind: 14 });
+    s.attributes.push(Attribute { node: 0, kind: 2 });
     s.attributes.push(Attribute { node: 1, kind: 15 });
     s.equations.push(equation(0, &[0], &[1]));
     let check = |links: [usize; 2], values: [u32; 2]| {
@@ -180,26 +180,55 @@ fn dangling_rows_come_before_values_and_values_before_bent_rows() {
         i.values = vec![vec![values[0]], vec![0, values[1]]];
         check_instance(&s.to_sheet(), &i.to_sheet())
     };
-    assert_eq!(check([1, 1], [1, 0]), Ok(()));
-    assert_eq!(check([1, 0], [1, 0]), refused(11, 2));
-    assert_eq!(check([1, 0], [2, 0]), refused(10, 2));
-    assert_eq!(check([1, 1], [1, 1]), refused(10, 2));
-    assert_eq!(check([1, 2], [2, 1]), refused(9, 2));
-    assert_eq!(check([1, 2], [1, 0]), refused(9, 2));
+    assert_eq!(check([1, 1], [720, 0]), Ok(()));
+    assert_eq!(check([1, 0], [720, 0]), refused(11, 2));
+    assert_eq!(check([1, 0], [721, 0]), refused(10, 2));
+    assert_eq!(check([1, 0], [0, 0]), refused(10, 2));
+    assert_eq!(check([1, 1], [720, 1]), refused(10, 2));
+    assert_eq!(check([1, 1], [0, 1]), refused(10, 2));
+    assert_eq!(check([1, 2], [721, 1]), refused(9, 2));
+    assert_eq!(check([1, 2], [0, 0]), refused(9, 2));
+    assert_eq!(check([1, 2], [720, 0]), refused(9, 2));
 }
 
+/// Each kind's smallest and largest value, read from the papers once more, so
+/// that a slip in [`RANGES`] is met.
+const ENDS: [(u32, u32); 16] = [
+    (0, 4294967295),
+    (0, 4294967295),
+    (1, 720),
+    (0, 1000),
+    (0, 20000),
+    (0, 5000),
+    (0, 5000),
+    (0, 1600),
+    (0, 25000),
+    (0, 4000),
+    (0, 65535),
+    (0, 86399),
+    (0, 10000),
+    (0, 4294967295),
+    (0, 1),
+    (0, 0),
+];
+
 #[test]
-fn each_kind_has_its_largest_value() {
-    for (kind, &largest) in LARGEST_VALUES.iter().enumerate() {
+fn each_kind_has_its_smallest_and_its_largest_value_and_none_beyond_them() {
+    for (kind, (smallest, largest)) in ENDS.into_iter().enumerate() {
+        assert_eq!(RANGES[kind], smallest..=largest);
         let mut s = graph(1, &[]);
         s.attributes.push(Attribute { node: 0, kind });
         let check = |value| {
             let i = Instance { rows: vec![1], links: vec![], values: vec![vec![value]] };
             check_instance(&s.to_sheet(), &i.to_sheet())
         };
+        if let Some(below) = smallest.checked_sub(1) {
+            assert_eq!(check(below), refused(10, 2));
+        }
+        assert_eq!(check(smallest), Ok(()));
         assert_eq!(check(largest), Ok(()));
-        if let Some(beyond) = largest.checked_add(1) {
-            assert_eq!(check(beyond), refused(10, 2));
+        if let Some(above) = largest.checked_add(1) {
+            assert_eq!(check(above), refused(10, 2));
         }
     }
 }

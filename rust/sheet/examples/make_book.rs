@@ -69,6 +69,14 @@ fn lay_line(random: &mut Random) -> Line {
     line
 }
 
+/// Minutes after twelve; twelve o'clock is written 720.
+fn clock(random: &mut Random) -> u32 {
+    match random.between(0, 719) {
+        0 => 720,
+        minutes => minutes,
+    }
+}
+
 /// A feature whose station nothing found so far has.
 fn find(random: &mut Random, line: &Line, found: &[Feature], depth: (u32, u32)) -> Feature {
     loop {
@@ -77,7 +85,7 @@ fn find(random: &mut Random, line: &Line, found: &[Feature], depth: (u32, u32)) 
         if found.iter().all(|feature| feature.values[0] != station) {
             let values = [
                 station,
-                random.between(0, 719),
+                clock(random),
                 random.between(depth.0, depth.1),
                 random.between(18, 260),
                 random.between(15, 180),

@@ -2,6 +2,7 @@
 //! `;` or a tab where the header has no comma.
 
 use crate::text::without_mark;
+use std::ops::RangeInclusive;
 
 /// A line of cells.
 #[derive(Debug, Clone, PartialEq, Eq)]
@@ -169,13 +170,15 @@ pub(crate) fn misnumbered(table: &str, rows: &[(usize, usize)]) -> Option<Broken
     None
 }
 
-/// A whole number from 0 to `largest` in decimal digits.
-pub(crate) fn number(cell: &str, largest: u64) -> Result<u64, String> {
-    let digits = !cell.is_empty() && cell.chars().all(|letter| letter.is_ascii_digit());
-    let value = cell.parse::<u64>().ok().filter(|&value| digits && value <= largest);
-    value.ok_or_else(|| match cell.is_empty() {
-        true => format!("is empty; expected a whole number from 0 to {largest}"),
-        false => format!("is `{cell}`; expected a whole number from 0 to {largest}"),
+/// A whole number from 0 to `most` in decimal digits; else what is told of the
+/// cell, with the numbers that are expected there.
+pub(crate) fn number(cell: &str, most: u32, expected: RangeInclusive<u32>) -> Result<u32, String> {
+    let digits = cell.chars().all(|letter| letter.is_ascii_digit());
+    let value = cell.parse().ok().filter(|&value| digits && value <= most);
+    value.ok_or_else(|| {
+        let found = if cell.is_empty() { "empty".to_string() } else { format!("`{cell}`") };
+        let (smallest, largest) = expected.into_inner();
+        format!("is {found}; expected a whole number from {smallest} to {largest}")
     })
 }
 
@@ -219,10 +222,12 @@ mod tests {
 
     #[test]
     fn numbers_are_digits_within_their_bound() {
-        assert_eq!(number("007", 9), Ok(7));
-        assert_eq!(number("9", 9), Ok(9));
+        let number = |cell: &str| number(cell, 9, 1..=8);
+        assert_eq!(number("007"), Ok(7));
+        assert_eq!([number("0"), number("9")], [Ok(0), Ok(9)]);
         for bad in ["10", "-1", "+1", "1.0", "", "x", "99999999999999999999"] {
-            assert!(number(bad, 9).is_err(), "{bad}");
+            let told = number(bad).expect_err(bad);
+            assert!(told.ends_with("; expected a whole number from 1 to 8"), "{told}");
         }
     }
 }

@@ -1,4 +1,7 @@
-//! The kinds of values, by document 01's names.
+//! The kinds of values, by document 01's names; the clock runs as request C-12 of
+//! document 02 has it.
+
+use std::ops::RangeInclusive;
 
 /// A kind of values.
 #[derive(Debug, Clone, Copy, PartialEq, Eq)]
@@ -7,32 +10,61 @@ pub struct Kind {
     pub name: &'static str,
     /// What the number counts.
     pub unit: &'static str,
-    /// The largest value; the smallest is 0.
+    /// The smallest value.
+    pub smallest: u32,
+    /// The largest value.
     pub largest: u32,
+    /// A value off scale that was on scale before.
+    pub former: Option<Former>,
 }
 
-const fn kind(name: &'static str, unit: &'static str, largest: u32) -> Kind {
-    Kind { name, unit, largest }
+/// A value of tables from before the kind's range changed.
+#[derive(Debug, Clone, Copy, PartialEq, Eq)]
+pub struct Former {
+    /// The value, off scale now.
+    pub value: u32,
+    /// What it stood for.
+    pub meaning: &'static str,
+    /// The value that stands for this now.
+    pub now: u32,
 }
+
+impl Kind {
+    /// The values of the kind.
+    ///
+    /// ```
+    /// assert_eq!(sheet::kinds::KINDS[2].range(), 1..=720);
+    /// ```
+    pub fn range(&self) -> RangeInclusive<u32> {
+        self.smallest..=self.largest
+    }
+}
+
+const fn kind(name: &'static str, unit: &'static str, smallest: u32, largest: u32) -> Kind {
+    Kind { name, unit, smallest, largest, former: None }
+}
+
+/// "twelve o'clock is written 720 and never 0."
+const TWELVE: Former = Former { value: 0, meaning: "twelve o'clock", now: 720 };
 
 /// The kinds by number.
 pub const KINDS: [Kind; 16] = [
-    kind("plain", "", 4_294_967_295),
-    kind("station", "mm", 4_294_967_295),
-    kind("clock", "minutes", 719),
-    kind("depth", "thousandths of wall", 1000),
-    kind("length", "mm", 20_000),
-    kind("width", "mm", 5000),
-    kind("wall", "0.01 mm", 5000),
-    kind("diameter", "mm", 1600),
-    kind("pressure", "kPa", 25_000),
-    kind("temperature", "0.1 K", 4000),
-    kind("day", "", 65_535),
-    kind("second", "of day", 86_399),
-    kind("speed", "mm/s", 10_000),
-    kind("identifier", "", 4_294_967_295),
-    kind("flag", "", 1),
-    kind("unused", "", 0),
+    kind("plain", "", 0, 4_294_967_295),
+    kind("station", "mm", 0, 4_294_967_295),
+    Kind { former: Some(TWELVE), ..kind("clock", "minutes", 1, 720) },
+    kind("depth", "thousandths of wall", 0, 1000),
+    kind("length", "mm", 0, 20_000),
+    kind("width", "mm", 0, 5000),
+    kind("wall", "0.01 mm", 0, 5000),
+    kind("diameter", "mm", 0, 1600),
+    kind("pressure", "kPa", 0, 25_000),
+    kind("temperature", "0.1 K", 0, 4000),
+    kind("day", "", 0, 65_535),
+    kind("second", "seconds of day", 0, 86_399),
+    kind("speed", "mm/s", 0, 10_000),
+    kind("identifier", "", 0, 4_294_967_295),
+    kind("flag", "", 0, 1),
+    kind("unused", "", 0, 0),
 ];
 
 /// The number of the kind with this name.  Document 01 writes kind 11 as
@@ -61,4 +93,23 @@ pub fn name_of(number: usize) -> &'static str {
 /// The names of all kinds, for messages.
 pub(crate) fn all_names() -> String {
     KINDS.map(|kind| kind.name).join(", ")
+}
+
+#[cfg(test)]
+mod tests {
+    use super::*;
+
+    #[test]
+    fn the_ranges_are_the_references() {
+        assert_eq!(KINDS.map(|kind| kind.range()), reference::plain::RANGES);
+    }
+
+    #[test]
+    fn a_former_value_is_off_scale_and_what_is_written_now_is_not() {
+        for kind in KINDS {
+            let Some(former) = kind.former else { continue };
+            assert!(!kind.range().contains(&former.value), "{}", kind.name);
+            assert!(kind.range().contains(&former.now), "{}", kind.name);
+        }
+    }
 }

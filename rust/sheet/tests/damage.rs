@@ -127,6 +127,7 @@ fn the_cause_is_found_along_mappings_at_random() {
     for number in [1, 2, 7, 9, 11, 12, 13] {
         assert!(met[number] > 0, "refusal {number} was not met: {met:?}");
     }
+    assert_eq!(met[10], 0, "the values are on scale");
 }
 
 #[test]

@@ -5,6 +5,7 @@
 mod common;
 
 use common::{documentation, example, names_in, repository, Folder};
+use sheet::kinds::{Kind, KINDS};
 use sheet::{Mapping, Schema};
 use std::fs;
 use std::path::Path;
@@ -133,9 +134,19 @@ fn the_schemas_and_mappings_shown_are_read() {
         }
     }
     assert_eq!(shown, 2);
-    let page = read("schema.md");
-    for kind in sheet::kinds::KINDS {
-        let row = format!("| `{}` | {} | {} |", kind.name, kind.unit, kind.largest);
-        assert!(page.contains(&row.replace("|  |", "| |")), "{row}");
-    }
+}
+
+/// Kinds 0 to 7 stand in the left half of the table, 8 to 15 in the right half.
+#[test]
+fn the_kinds_shown_are_the_tools() {
+    let page = fs::read_to_string(documentation().join("schema.md")).unwrap();
+    let half = |kind: &Kind| {
+        let Kind { name, unit, smallest, largest, .. } = kind;
+        format!("| `{name}` | {unit} | {smallest} to {largest} ").replace("|  |", "| |")
+    };
+    let rows = page.lines().skip_while(|line| !line.starts_with("| Kind |")).skip(2);
+    let rows: Vec<&str> = rows.take_while(|line| !line.is_empty()).collect();
+    let (left, right) = KINDS.split_at(8);
+    let kinds = left.iter().zip(right).map(|(left, right)| half(left) + &half(right) + "|");
+    assert_eq!(rows, kinds.collect::<Vec<_>>());
 }

@@ -277,11 +277,14 @@ mend: add the rows of Joint
 fn refusal_10_off_scale() {
     let folder = Folder::new("refusal-10");
     folder.write("clock.schema", "node Weld\ncolumn Weld.seam : clock\n");
-    folder.write("run/Weld.csv", "row,seam\n0,719\n1,720\n");
+    folder.write("run/Weld.csv", "row,seam\n0,1\n1,720\n");
+    folder.sheet("check instance clock.schema run").printed("accepted: rows 2 (Weld 2)\n");
+    folder.write("run/Weld.csv", "row,seam\n0,720\n1,721\n2,0\n");
     folder.sheet("check instance clock.schema run").refused(
-        "run/Weld.csv row 1: seam 720, but the largest clock is 719 (10, off scale)
-check_instance refused sheet 2, the instance (run): a value above its kind's largest
-mend: correct seam to 0 to 719 (in minutes)
+        "run/Weld.csv row 1: seam 721, but the kind clock runs from 1 to 720 (10, off scale)
+run/Weld.csv row 2: seam 0: twelve o'clock is written 720 (10, off scale)
+check_instance refused sheet 2, the instance (run): a value below its kind's smallest or above its largest
+mend: correct seam to 1 to 720 (in minutes)
 ",
     );
     let rows: String = (0..7).map(|row| format!("{row},{}\n", 800 + row)).collect();
@@ -289,6 +292,37 @@ mend: correct seam to 0 to 719 (in minutes)
     let told = folder.sheet("check instance clock.schema run").err();
     assert!(told.contains("run/Weld.csv row 4: seam 804"));
     assert!(told.contains("and 2 more like these\n"));
+    folder.write("flag.schema", "node Weld\ncolumn Weld.shop : flag\n");
+    folder.write("run/Weld.csv", "row,shop\n0,0\n1,1\n2,2\n");
+    folder.sheet("check instance flag.schema run").refused(
+        "run/Weld.csv row 2: shop 2, but the kind flag runs from 0 to 1 (10, off scale)
+check_instance refused sheet 2, the instance (run): a value below its kind's smallest or above its largest
+mend: correct shop to 0 to 1
+",
+    );
+}
+
+/// Twelve o'clock as it was written before, in tables and in a sheet of them.
+#[test]
+fn refusal_10_twelve_oclock() {
+    let folder = Folder::new("refusal-10-twelve");
+    folder.write("weld.schema", "node Weld\ncolumn Weld.clock : clock\n");
+    folder.write("run/Weld.csv", "row,clock\n0,14\n1,0\n");
+    let told = |file: &str, place: &str| {
+        format!(
+            "{place} row 1: clock 0: twelve o'clock is written 720 (10, off scale)
+check_instance refused sheet 2, the instance ({file}): a value below its kind's smallest or above its largest
+mend: write clock 0 as 720
+"
+        )
+    };
+    folder.sheet("check instance weld.schema run").refused(&told("run", "run/Weld.csv"));
+    folder
+        .sheet("pack instance weld.schema run -o run.sheet")
+        .refused(&told("run", "run/Weld.csv"));
+    folder.sheet("pack --unchecked instance weld.schema run -o run.sheet").silent();
+    let of_sheet = told("run.sheet", "run.sheet, Weld");
+    folder.sheet("show instance weld.schema run.sheet").refused(&of_sheet);
 }
 
 #[test]

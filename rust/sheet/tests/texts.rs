@@ -159,6 +159,19 @@ run/Dent.csv line 5: station is `4294967296`; expected a whole number from 0 to 
 }
 
 #[test]
+fn a_cell_without_a_value_is_told_its_kinds_range() {
+    let folder = Folder::new("text-values");
+    folder.write("clock.schema", "node Weld\ncolumn Weld.seam : clock\n");
+    folder.write("run/Weld.csv", "row,seam\n0,\n1,12:14\n2,4294967296\n");
+    folder.sheet("check instance clock.schema run").bad(
+        "run/Weld.csv line 2: seam is empty; expected a whole number from 1 to 720
+run/Weld.csv line 3: seam is `12:14`; expected a whole number from 1 to 720
+run/Weld.csv line 4: seam is `4294967296`; expected a whole number from 1 to 720
+",
+    );
+}
+
+#[test]
 fn tables_as_spreadsheets_write_them() {
     let folder = Folder::with_example("text-spreadsheet", "base");
     let accepted = "accepted: rows 5 (Dent 2, Joint 2, Loss 1)\n";

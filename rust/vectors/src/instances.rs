@@ -9,15 +9,16 @@ use crate::random::Random;
 use reference::paths::Classes;
 use reference::plain::*;
 
-/// A value of a kind: now and then the largest, else one of few, so that equal
-/// values are common.
+/// A value of a kind: now and then the largest or any, else the smallest or one of
+/// the two after it, so that equal values are common.
 pub fn value(random: &mut Random, kind: usize) -> u32 {
-    let largest = LARGEST_VALUES[kind];
-    match random.below(8) {
-        0 => largest,
-        1 => ((random.bits() >> 32) as u32).min(largest),
-        _ => (random.below(3) as u32).min(largest),
-    }
+    let (smallest, largest) = RANGES[kind].clone().into_inner();
+    let more = match random.below(8) {
+        0 => u32::MAX,
+        1 => (random.bits() >> 32) as u32,
+        _ => random.below(3) as u32,
+    };
+    smallest + more.min(largest - smallest)
 }
 
 /// An accepted instance of an accepted schema with some `generators` rows that

@@ -13,7 +13,7 @@ pub fn limits() -> Vec<Case> {
     let mut cases = Vec::new();
     cases.extend(counts_of_schemas());
     cases.extend(many_paths());
-    cases.extend(largest_values());
+    cases.extend(ends_of_kinds());
     cases.extend(long_paths());
     cases.extend(rows_of_instances());
     cases.extend(rows_of_results());
@@ -125,14 +125,21 @@ fn many_paths() -> Vec<Case> {
     ]
 }
 
-/// Each kind's largest value, and one more.
-fn largest_values() -> Vec<Case> {
+/// Both sides of both ends of each kind, each in a run after the kind's smallest
+/// value.
+fn ends_of_kinds() -> Vec<Case> {
     let mut cases = Vec::new();
-    for (kind, &largest) in LARGEST_VALUES.iter().enumerate() {
+    for (kind, range) in RANGES.into_iter().enumerate() {
+        let (smallest, largest) = range.into_inner();
         let mut schema = graph(1, &[]);
         schema.attributes.push(Attribute { node: 0, kind });
-        for value in [Some(largest), largest.checked_add(1)].into_iter().flatten() {
-            let run = Instance { rows: vec![2], links: vec![], values: vec![vec![0, value]] };
+        let (below, above) = (smallest.checked_sub(1), largest.checked_add(1));
+        let ends = [below, Some(smallest), Some(largest), above];
+        let mut values: Vec<u32> = ends.into_iter().flatten().collect();
+        values.dedup();
+        for value in values {
+            let run =
+                Instance { rows: vec![2], links: vec![], values: vec![vec![smallest, value]] };
             let name = format!("kind {kind}, value {value}");
             let sheets = vec![schema.to_sheet(), run.to_sheet()];
             cases.push(Case::new(name, Call::CheckInstance, sheets));

@@ -1,4 +1,5 @@
-//! Document 01's "Runs to check against", by name.
+//! Document 01's "Runs to check against", by name; case 11 as request C-12 of
+//! document 02 has it.
 
 use crate::base::*;
 use crate::build::*;
@@ -138,8 +139,9 @@ fn limits_of_the_paper() -> Vec<Case> {
         Case::new("case 10: 257 paths", Call::CheckSchema, vec![more.to_sheet()]),
         Case::new("case 11: 512 rows", Call::CheckInstance, rows(512)),
         Case::new("case 11: 513 rows", Call::CheckInstance, rows(513)),
-        Case::new("case 11: clock 719", Call::CheckInstance, at(719)),
         Case::new("case 11: clock 720", Call::CheckInstance, at(720)),
+        Case::new("case 11: clock 721", Call::CheckInstance, at(721)),
+        Case::new("case 11: clock 0", Call::CheckInstance, at(0)),
     ]
 }
 

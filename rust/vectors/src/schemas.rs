@@ -54,10 +54,19 @@ pub fn is_accepted(schema: &Schema) -> bool {
     Schema::accept(&schema.to_sheet()).as_ref() == Ok(schema)
 }
 
+/// A kind; one in four is the clock, the only one whose smallest value is not 0.
+fn kind(random: &mut Random) -> usize {
+    if random.once_in(4) {
+        2
+    } else {
+        random.below(16)
+    }
+}
+
 /// Some attributes at random nodes.
 pub fn add_attributes(random: &mut Random, schema: &mut Schema, most: usize) {
     for _ in 0..random.below(most + 1) {
-        let (node, kind) = (random.below(schema.nodes), random.below(16));
+        let (node, kind) = (random.below(schema.nodes), kind(random));
         schema.attributes.push(Attribute { node, kind });
     }
 }

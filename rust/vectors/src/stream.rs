@@ -51,14 +51,15 @@ pub fn fixed_and_refused(random: &mut Random) -> Vec<Case> {
 
 /// A case of a call with a damaged sheet, from the first world that allows it.
 fn damaged(random: &mut Random, call: Call, place: usize, damage: Damage) -> Case {
-    loop {
+    let name = format!("place {}, {damage:?}", place + 1);
+    for _ in 0..10_000 {
         let world = World::matched(random, 3);
         let lent = world.lent(random, call);
         if let Some(sheets) = damage.done_to(random, call, &lent, place) {
-            let name = format!("place {}, {damage:?}", place + 1);
             return Case::new(name, call, sheets).with_tray(random.below(64));
         }
     }
+    panic!("{} {name}: no world allows it", call.name());
 }
 
 /// Cases for 12, 13, 15 and 16; those for 14 are among the limits.

@@ -3,6 +3,7 @@
 use reference::bits::BitReader;
 use reference::plain::*;
 use reference::Refusal;
+use std::cmp::Ordering;
 use std::collections::{BTreeMap, BTreeSet};
 use std::sync::OnceLock;
 use vectors::answer::{reference_outcome, Outcome};
@@ -148,8 +149,9 @@ fn the_papers_cases_end_as_it_says() {
     check(Call::CheckSchema, "case 10: 257 paths", &[refused(6, 1)]);
     check(Call::CheckInstance, "case 11: 512 rows", &[Accepted]);
     check(Call::CheckInstance, "case 11: 513 rows", &[refused(3, 2)]);
-    check(Call::CheckInstance, "case 11: clock 719", &[Accepted]);
-    check(Call::CheckInstance, "case 11: clock 720", &[refused(10, 2)]);
+    check(Call::CheckInstance, "case 11: clock 720", &[Accepted]);
+    check(Call::CheckInstance, "case 11: clock 721", &[refused(10, 2)]);
+    check(Call::CheckInstance, "case 11: clock 0", &[refused(10, 2)]);
     check(Call::Sigma, "case 12: a tray of 17 bytes", &[refused(16, 0)]);
     check(Call::Sigma, "case 12: a tray of 18 bytes", &[Accepted]);
     let only_matching = |call: Call| {
@@ -182,7 +184,10 @@ fn limits_are_met_on_both_sides() {
         "a link beyond 511 rows",
         refused(9, 2),
     );
+    sides(Call::CheckInstance, "kind 2, value 1", "kind 2, value 0", refused(10, 2));
+    sides(Call::CheckInstance, "kind 2, value 720", "kind 2, value 721", refused(10, 2));
     sides(Call::CheckInstance, "kind 14, value 1", "kind 14, value 2", refused(10, 2));
+    sides(Call::CheckInstance, "kind 15, value 0", "kind 15, value 1", refused(10, 2));
     sides(Call::Pi, "64 components", "65 components", refused(14, 0));
     check(Call::Pi, "65 components without rows", &[refused(14, 0)]);
     check(Call::Pi, "64 components of two rows", &[refused(15, 0)]);
@@ -203,6 +208,58 @@ fn limits_are_met_on_both_sides() {
     check(Call::Sigma, "the longest, pushed", &[full]);
     check(Call::Pi, "the longest, joined", &[full]);
     check(Call::CheckSchema, "65,535 bytes", &[refused(2, 1)]);
+}
+
+/// An instance sheet as it is, judged or not.
+fn read(schema: &Schema, sheet: &[u8]) -> Option<Instance> {
+    let mut reader = BitReader::new(sheet);
+    let rows = reader.numbers(schema.nodes, 10).ok()?;
+    let links = schema.edges.iter().map(|edge| reader.numbers(rows[edge.source], 9).ok());
+    let links = links.collect::<Option<_>>()?;
+    let mut column = |count: usize| (0..count).map(|_| reader.field(32).ok()).collect();
+    let values = schema.attributes.iter().map(|attribute| column(rows[attribute.node]));
+    let values = values.collect::<Option<_>>()?;
+    Some(Instance { rows, links, values })
+}
+
+/// Whether the value that is an instance sheet's only fault is below its kind's
+/// smallest or above its largest; nothing where there are other faults.
+fn off_scale(schema: &Schema, sheet: &[u8]) -> Option<Ordering> {
+    let mut instance = read(schema, sheet)?;
+    let mut sides = Vec::new();
+    for (values, attribute) in instance.values.iter_mut().zip(&schema.attributes) {
+        let (smallest, largest) = RANGES[attribute.kind].clone().into_inner();
+        for value in values {
+            let found = *value;
+            *value = found.clamp(smallest, largest);
+            sides.push(found.cmp(value));
+        }
+    }
+    sides.retain(|side| side.is_ne());
+    let accepted = Instance::accept(schema, &instance.to_sheet()).is_ok();
+    (accepted && sides.len() == 1).then(|| sides[0])
+}
+
+#[test]
+fn every_instance_is_sent_back_for_one_value_too_small_and_for_one_too_large() {
+    let mut met = BTreeSet::new();
+    for (case, outcome) in stored() {
+        let Err(Refusal { number: 10, place }) = outcome.answer else { continue };
+        let place = usize::from(place) - 1;
+        let over = usize::from(case.call.sheets()[place] == Kind::InstanceOfT);
+        let schema = Schema::accept(&case.sheets[over]).expect("a schema, judged before");
+        let side = off_scale(&schema, &case.sheets[place]);
+        met.extend(side.map(|side| (case.call, place, side)));
+    }
+    for call in Call::ALL {
+        for (place, kind) in call.sheets().iter().enumerate() {
+            for side in [Ordering::Less, Ordering::Greater] {
+                let can_be = matches!(kind, Kind::InstanceOfS | Kind::InstanceOfT);
+                let is = met.contains(&(call, place, side));
+                assert_eq!(is, can_be, "{}, place {}: {side:?}", call.name(), place + 1);
+            }
+        }
+    }
 }
 
 /// The decoded schemas, mapping and first instance of an accepted case.

@@ -25,7 +25,8 @@ fn the_stored_files_are_todays() {
 #[test]
 fn the_files_are_small_and_many_cases() {
     let (vectors, expected) = (stored("stdin"), stored("stdout"));
-    assert!(vectors.len() < 1_000_000, "{} bytes", vectors.len());
+    // The program reads no more.
+    assert!(vectors.len() <= 393_216, "{} bytes", vectors.len());
     let lines = expected.iter().filter(|&&byte| byte == b'\n').count();
     assert!(lines > 4000, "{lines} cases");
 }

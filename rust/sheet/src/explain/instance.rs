@@ -3,7 +3,7 @@
 use super::{fault_cause, Cause};
 use crate::bits::counted;
 use crate::instance::Instance;
-use crate::kinds;
+use crate::kinds::{Kind, KINDS};
 use crate::lent::{Lent, LentSchema};
 use crate::schema::Schema;
 
@@ -56,23 +56,31 @@ fn dangling(lent: &Lent, schema: &Schema, instance: &Instance) -> Vec<Cause> {
 fn off_scale(lent: &Lent, schema: &Schema, instance: &Instance) -> Vec<Cause> {
     let mut causes = Vec::new();
     for (number, column) in schema.columns.iter().enumerate() {
-        let Some(kind) = kinds::KINDS.get(column.kind) else { continue };
+        let Some(kind) = KINDS.get(column.kind) else { continue };
         for (row, &value) in instance.values[number].iter().enumerate() {
-            if value <= kind.largest {
+            if kind.range().contains(&value) {
                 continue;
             }
             let place = lent.row_place(&schema.node_name(column.node), row);
-            let name = &column.name;
-            let what = format!("{name} {value}, but the largest {} is {}", kind.name, kind.largest);
-            let unit = match kind.unit {
-                "" => String::new(),
-                unit => format!(" (in {unit})"),
-            };
-            let mend = format!("correct {name} to 0 to {}{unit}", kind.largest);
-            causes.push(Cause::new(place, what).mend(mend));
+            causes.push(value_cause(place, &column.name, kind, value));
         }
     }
     causes
+}
+
+/// The cause where a column has a value off its kind's scale.
+fn value_cause(place: String, name: &str, kind: &Kind, value: u32) -> Cause {
+    if let Some(former) = kind.former.filter(|former| former.value == value) {
+        let what = format!("{name} {value}: {} is written {}", former.meaning, former.now);
+        return Cause::new(place, what).mend(format!("write {name} {value} as {}", former.now));
+    }
+    let range = format!("{} to {}", kind.smallest, kind.largest);
+    let what = format!("{name} {value}, but the kind {} runs from {range}", kind.name);
+    let unit = match kind.unit {
+        "" => String::new(),
+        unit => format!(" (in {unit})"),
+    };
+    Cause::new(place, what).mend(format!("correct {name} to {range}{unit}"))
 }
 
 fn bent_rows(lent: &Lent, over: &LentSchema, schema: &Schema, instance: &Instance) -> Vec<Cause> {

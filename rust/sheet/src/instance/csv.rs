@@ -4,9 +4,11 @@
 use super::{Instance, TableText};
 use crate::bits::counted;
 use crate::csv::{self, Record, FIELD_ROW};
+use crate::kinds::{Kind, KINDS};
 use crate::names::{listed, ROW};
 use crate::schema::Schema;
 use crate::text::TextError;
+use std::ops::RangeInclusive;
 
 /// The largest row count that a sheet's field holds.
 const FIELD_COUNT: usize = 1023;
@@ -159,10 +161,20 @@ fn field_name(schema: &Schema, field: Field) -> &str {
     }
 }
 
+/// The numbers that are expected in a field; others are left to the proved call.
+fn expected(schema: &Schema, field: Field) -> RangeInclusive<u32> {
+    match field {
+        Field::Row | Field::Link(_) => 0..=u32::MAX,
+        Field::Value(column) => {
+            KINDS.get(schema.columns[column].kind).map_or(0..=u32::MAX, Kind::range)
+        }
+    }
+}
+
 /// A read row: its links and values in the order of the table's own.
 struct Row {
     line: usize,
-    links: Vec<u64>,
+    links: Vec<u32>,
     values: Vec<u32>,
 }
 
@@ -221,17 +233,17 @@ fn read_row(record: &Record, places: &[Field], schema: &Schema) -> Result<(usize
     for (place, &field) in places.iter().enumerate() {
         let cell = record.cells.get(place).map_or("", String::as_str);
         let told = |what: String| format!("{} {what}", field_name(schema, field));
-        let bound = u64::from(u32::MAX);
+        let found = csv::number(cell, u32::MAX, expected(schema, field)).map_err(told)?;
         match field {
-            Field::Row => number = csv::number(cell, bound).map_err(told)? as usize,
-            Field::Link(link) => links.push((link, csv::number(cell, bound).map_err(told)?)),
-            Field::Value(column) => values.push((column, csv::number(cell, bound).map_err(told)?)),
+            Field::Row => number = found as usize,
+            Field::Link(link) => links.push((link, found)),
+            Field::Value(column) => values.push((column, found)),
         }
     }
     links.sort();
     values.sort();
     let links = links.into_iter().map(|(_, target)| target).collect();
-    let values = values.into_iter().map(|(_, value)| value as u32).collect();
+    let values = values.into_iter().map(|(_, value)| value).collect();
     Ok((number, Row { line: record.line, links, values }))
 }
 

@@ -96,8 +96,9 @@ fn read_entry(
     let node = schema.node(cell(table)).ok_or_else(|| {
         format!("no table is named `{}`; the tables: {}", cell(table), listed(&schema.nodes))
     })?;
+    let most = FIELD_ROW as u32;
     let number = |place, name: &str| {
-        csv::number(cell(place), FIELD_ROW as u64).map_err(|what| format!("{name} {what}"))
+        csv::number(cell(place), most, 0..=most).map_err(|what| format!("{name} {what}"))
     };
     let row = number(row, "row")? as usize;
     let partner = number(partner, "partner")? as usize;

@@ -115,8 +115,8 @@ pub fn linked_instance(random: &mut Random, schema: &Schema, most_rows: usize) -
         targets.iter_mut().for_each(|target| *target %= count);
     }
     for (values, column) in found.values.iter_mut().zip(&schema.columns) {
-        let largest = sheet::kinds::KINDS[column.kind].largest;
-        values.iter_mut().for_each(|value| *value = (*value % 3).min(largest));
+        let (smallest, largest) = sheet::kinds::KINDS[column.kind].range().into_inner();
+        values.iter_mut().for_each(|value| *value = (*value % 3).clamp(smallest, largest));
     }
     found
 }

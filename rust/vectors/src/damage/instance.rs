@@ -3,6 +3,7 @@
 
 use crate::random::Random;
 use reference::plain::*;
+use std::ops::RangeInclusive;
 
 /// A way to damage an instance sheet.
 #[derive(Debug, Clone, Copy, PartialEq, Eq, PartialOrd, Ord)]
@@ -21,10 +22,12 @@ pub enum InstanceDamage {
     DanglingByOne,
     /// A link to row 511.
     DanglingFar,
+    /// A value one below its kind's smallest.
+    BelowByOne,
     /// A value one above its kind's largest.
-    OffScaleByOne,
+    AboveByOne,
     /// The largest value of 32 bits.
-    OffScaleFar,
+    AboveFar,
     /// A row where the sides of an equation lead to different rows.
     BentRow,
     /// A dangling link and a value off scale: 9.
@@ -39,7 +42,7 @@ use InstanceDamage::*;
 
 impl InstanceDamage {
     /// All of them.
-    pub const ALL: [InstanceDamage; 13] = [
+    pub const ALL: [InstanceDamage; 14] = [
         OneRowTooMany,
         ManyRows,
         ManyRowsCut,
@@ -47,8 +50,9 @@ impl InstanceDamage {
         CountsAlone,
         DanglingByOne,
         DanglingFar,
-        OffScaleByOne,
-        OffScaleFar,
+        BelowByOne,
+        AboveByOne,
+        AboveFar,
         BentRow,
         DanglingAndOffScale,
         OffScaleAndBent,
@@ -62,7 +66,7 @@ impl InstanceDamage {
             DanglingAndTail => 2,
             OneRowTooMany | ManyRows | ManyRowsAlone => 3,
             DanglingByOne | DanglingFar | DanglingAndOffScale => 9,
-            OffScaleByOne | OffScaleFar | OffScaleAndBent => 10,
+            BelowByOne | AboveByOne | AboveFar | OffScaleAndBent => 10,
             BentRow => 11,
         }
     }
@@ -82,16 +86,17 @@ impl InstanceDamage {
                 dangle(random, schema, &mut instance, |count| count)?;
             }
             DanglingFar => dangle(random, schema, &mut instance, |_| 511)?,
-            OffScaleByOne => raise(random, schema, &mut instance, |largest| largest + 1)?,
-            OffScaleFar => raise(random, schema, &mut instance, |_| u32::MAX)?,
+            BelowByOne => put_off_scale(random, schema, &mut instance, &[one_below])?,
+            AboveByOne => put_off_scale(random, schema, &mut instance, &[one_above])?,
+            AboveFar => put_off_scale(random, schema, &mut instance, &[far_above])?,
             BentRow => bend(random, schema, &mut instance)?,
             DanglingAndOffScale => {
                 dangle(random, schema, &mut instance, |count| count)?;
-                raise(random, schema, &mut instance, |largest| largest + 1)?;
+                put_off_scale(random, schema, &mut instance, &[one_below, one_above])?;
             }
             OffScaleAndBent => {
                 bend(random, schema, &mut instance)?;
-                raise(random, schema, &mut instance, |largest| largest + 1)?;
+                put_off_scale(random, schema, &mut instance, &[one_below, one_above])?;
             }
         }
         let mut sheet = instance.to_sheet();
@@ -123,19 +128,38 @@ fn dangle(
     Some(())
 }
 
-/// Makes a value too large, named by its kind's largest.
-fn raise(
+/// From the values that a kind has one that it has not, if there is such a one.
+type OffScale = fn(&RangeInclusive<u32>) -> Option<u32>;
+
+fn one_below(range: &RangeInclusive<u32>) -> Option<u32> {
+    range.start().checked_sub(1)
+}
+
+fn one_above(range: &RangeInclusive<u32>) -> Option<u32> {
+    range.end().checked_add(1)
+}
+
+fn far_above(range: &RangeInclusive<u32>) -> Option<u32> {
+    (!range.contains(&u32::MAX)).then_some(u32::MAX)
+}
+
+/// Makes some value one that its kind has not, on any of these sides.
+fn put_off_scale(
     random: &mut Random,
     schema: &Schema,
     instance: &mut Instance,
-    value: impl Fn(u32) -> u32,
+    sides: &[OffScale],
 ) -> Option<()> {
-    let largest = |a: usize| LARGEST_VALUES[schema.attributes[a].kind];
-    let mut columns: Vec<usize> = (0..schema.attributes.len()).collect();
-    columns.retain(|&a| !instance.values[a].is_empty() && largest(a) < u32::MAX);
-    let a = random.any_of(&columns)?;
+    let mut choices = Vec::new();
+    for (a, attribute) in schema.attributes.iter().enumerate() {
+        let values = sides.iter().filter_map(|side| side(&RANGES[attribute.kind]));
+        if !instance.values[a].is_empty() {
+            choices.extend(values.map(|value| (a, value)));
+        }
+    }
+    let (a, value) = random.any_of(&choices)?;
     let row = random.below(instance.values[a].len());
-    instance.values[a][row] = value(largest(a));
+    instance.values[a][row] = value;
     Some(())
 }
 

@@ -4,6 +4,7 @@ use mathlib.Core.List.{[]}
 use native.Mathlib.Omega.{arith}
 use lib.ListN.{length}
 use borrow.Author.Needs.{needs}
+use Rattle.instance.specs.Ranges.{kindsOf}
 use Rattle.instance.proofs.Decoding.{value-columns}
 use Rattle.instance.proofs.Following.{values-test}
 use Rattle.instance.proofs.range.values_in_range.Statement.{statement}
@@ -26,7 +27,7 @@ slice-aggregate-columns-in-range-3 c = search needs
 
 columns-in-range-requires : tie.Need-columns-in-range-requires
 columns-in-range-requires c κs =
-    let z = c .before .before .before .before .before .before .before .before in
+    let z = c .before .before .before .before .before .before .before in
     let a = z .args in
     let A = z .pre .0 in
     let L = z .pre .1 in
@@ -34,7 +35,7 @@ columns-in-range-requires c κs =
     (value-columns (a .schema) A (a .instance .counts) (L .rows) (L .long) (node-long z), omega (arith, kind-long z), omega arith)
 
 returns : tie.Need-returns
-returns c = let z = c .before .before .before .before .before .before .before .before .before in c .columns-in-range .ensures ∙ sym (values-test (z .args .schema) (z .pre .0) (z .args .instance) [] (z .args .values .now) (z .args .kinds .now))
+returns c = let z = c .before .before .before .before .before .before .before .before in c .columns-in-range .ensures ∙ sym (values-test (z .args .schema) (z .pre .0) (z .args .instance) [] (z .args .values .now) (kindsOf (z .args .kinds)))
 
 pub values-in-range-spec : {M : Type 1} → statement M
 values-in-range-spec =
