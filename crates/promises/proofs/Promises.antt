@@ -108,7 +108,7 @@ c-11 = record {
 }
 
 pub c-12 : C-12
-c-12 = record { clock = λ v. (λ is. is, λ is. is); others = zero-in; refusal-10 = off-scale-iff }
+c-12 = record { clock = λ v. (λ is. is, λ is. is); others-have-zero = zero-in; refusal-10 = off-scale-iff }
 
 pub program : Program
 program = record { push-frames = push-frames }

@@ -163,7 +163,7 @@ pub record C-11 : Type 0 where
 pub record C-12 : Type 0 where
   -- "Kind 2 therefore runs from 1 to 720"; every other kind has 0, as before
   pub clock : (v : ℕ) → InRange kinds 2 v ↔ ((1 ≤ v) × (v ≤ 720))
-  pub others : (k : ℕ) → (k ≡ 2 → ⊥) → InRange kinds k 0
+  pub others-have-zero : (k : ℕ) → (k ≡ 2 → ⊥) → InRange kinds k 0
   -- "A kind now has a smallest value as well as a largest, and 10 is given below the one or above the other": exactly then, of a sheet that reads as
   -- an instance and passes 9
   pub refusal-10 : (S : Schema) (i : List ℕ) → (judgeInstance S i ≡ faulty 10) ↔ ((I : Instance) × OffScale S i I)

@@ -54,7 +54,8 @@ pub fn is_accepted(schema: &Schema) -> bool {
     Schema::accept(&schema.to_sheet()).as_ref() == Ok(schema)
 }
 
-/// A kind; one in four is the clock, the only one whose smallest value is not 0.
+/// A kind; one in four, and one in 16 of the others, is the clock, the only one whose
+/// smallest value is not 0.
 fn kind(random: &mut Random) -> usize {
     if random.once_in(4) {
         2
