@@ -128,6 +128,20 @@ fn input(name: &str) -> Result<Case, String> {
     trials::puzzle(name).or_else(input).ok_or_else(|| format!("no case is named {name}"))
 }
 
+/// What stands on the stack from the start of a page on.
+#[repr(align(4096))]
+struct Page(u8);
+
+/// One call, from a stack that begins at a page.  Where a program's stack begins
+/// goes by the length of its environment, and how the C library copies arrays by
+/// where they stand: so the instructions are the same in every environment.
+#[inline(never)]
+fn counted(who: Who, case: &Case, tray: &mut [u8]) {
+    let page = Page(0);
+    black_box(&page.0);
+    black_box(measured(who, case, tray));
+}
+
 /// One call by name, the first on its sheets, with a tray that nothing has
 /// touched yet.
 fn once(name: &str, who: &str) -> Result<(), String> {
@@ -136,7 +150,7 @@ fn once(name: &str, who: &str) -> Result<(), String> {
     let version = versions.find(|(name, _)| *name == who);
     let (_, who) = version.ok_or_else(|| format!("{name} is not answered by {who}"))?;
     let mut tray = vec![0; case.tray];
-    black_box(measured(who, &case, &mut tray));
+    counted(who, &case, &mut tray);
     Ok(())
 }
 

@@ -19,11 +19,11 @@ small head width value m e l h =
     let t : m ≤ 2 ^ 32 = rw e (pow-mono {j = 32} l) in
     record { some = p; whole = omega (arith, digits-lt h (mod-lt value p)) }
 
-facts : (c : tie.After-weight) → Small (c .before .args .head) (c .weight .result) (c .before .args .value)
-facts c = small _ (c .before .args .width) _ _ (c .weight .ensures) (omega arith) (omega arith)
+facts : (c : tie.After-bound) → Small (c .before .args .head) (c .bound .result) (c .before .args .value)
+facts c = small _ (c .before .args .width) _ _ (c .bound .ensures) (omega arith) (omega arith)
 
-weight-requires : tie.Need-weight-requires
-weight-requires c κs = search needs
+bound-requires : tie.Need-bound-requires
+bound-requires c κs = search needs
 
 mul-result : tie.Need-mul-result
 mul-result c = omega (arith, facts c)
@@ -35,7 +35,7 @@ add-result : tie.Need-add-result
 add-result c = omega (arith, facts c)
 
 returns : tie.Need-returns
-returns c = rw (c .weight .ensures)
+returns c = rw (c .bound .ensures)
 
 pub joined-spec : {M : Type 1} → statement M
-joined-spec = tie.close (tie.spec weight-requires mul-result rem-result add-result returns)
+joined-spec = tie.close (tie.spec bound-requires mul-result rem-result add-result returns)
