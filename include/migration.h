@@ -27,8 +27,7 @@
  * A pointer may be null only where its length is 0. Two lent byte strings may overlap, unless one of them is a tray.
  *
  * Every call gives a 64-bit number:
- *   below 2^32                      accepted: the byte length of the result; 0 for a check; for migration_same_path 1 equal, 0 unequal;
- *                                   for migration_path_chain 0 unequal
+ *   below 2^32                      accepted: the byte length of the result; 0 for a check, and for migration_path_chain 0 unequal
  *   2^32 + 256 * number + place     refused: number says why (below), place is the sheet's, counted from 1 in the order of the
  *                                   parameters; 0 where the condition is one of all sheets together
  *
@@ -71,8 +70,9 @@ enum {
     MIGRATION_NO_MATCH = 17     /* the list is not a matching */
 };
 
-/* A tray of this many bytes holds every instance sheet, of this many every matching sheet, and of this many every chain sheet. */
-enum { MIGRATION_INSTANCE_BYTES = 51220, MIGRATION_MATCHING_BYTES = 576, MIGRATION_CHAIN_BYTES = 320 };
+/* A tray of this many bytes holds every instance sheet, of this many every matching sheet, of this many every path sheet, and of this many every
+ * chain sheet. */
+enum { MIGRATION_INSTANCE_BYTES = 51220, MIGRATION_MATCHING_BYTES = 576, MIGRATION_PATH_BYTES = 11, MIGRATION_CHAIN_BYTES = 320 };
 
 /* The calls have their working arrays on the stack. A call needs at most so many bytes of it, whatever it is lent, below the frame that makes it;
  * a thread that makes the call needs them besides what its own code needs. */
@@ -80,7 +80,7 @@ enum {
     MIGRATION_STACK_CHECK_SCHEMA = 16384,
     MIGRATION_STACK_CHECK_MAPPING = 24576,
     MIGRATION_STACK_CHECK_INSTANCE = 122880,
-    MIGRATION_STACK_SAME_PATH = 20480,
+    MIGRATION_STACK_FIRST_PATH = 20480,
     MIGRATION_STACK_PATH_CHAIN = 32768,
     MIGRATION_STACK_DELTA = 253952,
     MIGRATION_STACK_SIGMA = 262144,
@@ -102,8 +102,10 @@ uint64_t migration_check_mapping(const uint8_t *s, size_t s_len, const uint8_t *
 /* Checks a schema (place 1) and an instance of it (place 2). */
 uint64_t migration_check_instance(const uint8_t *s, size_t s_len, const uint8_t *i, size_t i_len);
 
-/* Whether two paths (places 2, 3) of a schema (place 1) are equal by its equations. */
-uint64_t migration_same_path(const uint8_t *s, size_t s_len, const uint8_t *p, size_t p_len, const uint8_t *q, size_t q_len);
+/* The first path that is equal to a path (place 2) by the equations of its schema (place 1), in the order of length, then start node, then edge
+ * numbers from the left: a path sheet, written to the tray. Two paths are equal exactly where these sheets are the same bytes, so that paths
+ * with another start or another end have other sheets. A path sheet has at least one byte: the answer is never 0. At place 0: 16. */
+uint64_t migration_first_path(const uint8_t *s, size_t s_len, const uint8_t *p, size_t p_len, uint8_t *tray, size_t tray_len);
 
 /* Which equations make two paths (places 2, 3) of a schema (place 1) equal: a chain of steps from the first path to the second, each of which
  * replaces one side of an equation, standing in the path, by the other. The chain has the fewest steps possible, and among those it is the first

@@ -5,6 +5,7 @@ use mathlib.Core.Bool.{Bool, true, false}
 use mathlib.Core.List.{List}
 use lib.Dec.{leb}
 use borrow.Author.Tests.{leb-true, le-leb}
+use Rattle.meaning.specs.Category.{listedCategory}
 use Rattle.meaning.specs.Lists.{sumOf}
 use Rattle.meaning.specs.Sheet.{Judged, faulty, sound}
 use Rattle.meaning.specs.Formats.{Instance, maxRows}
@@ -47,14 +48,14 @@ fits-accepted J k {b} e = go (leb (sumOf (J .counts)) maxRows) refl e
 pub record MigrationSound (s t f : List ℕ) (m : Migration) : Type 0 where
   pub S-sound : judgeSchema s ≡ sound (m .S)
   pub T-sound : judgeSchema t ≡ sound (m .T)
-  pub F-sound : judgeMapping (m .S) (m .T) f ≡ sound (m .F)
+  pub F-sound : judgeMapping (listedCategory (m .S)) (listedCategory (m .T)) f ≡ sound (m .F)
 
 module _ (s t f : List ℕ) where
   migration-accepted : {m : Migration} → migration s t f ≡ accepted m → MigrationSound s t f m
   migration-accepted {m} e =
       let a = sheet-accepted 1 (judgeSchema s) _ e in
       let b = sheet-accepted 2 (judgeSchema t) _ (a .2) in
-      let c = sheet-accepted 3 (judgeMapping (a .0) (b .0) f) _ (b .2) in
+      let c = sheet-accepted 3 (judgeMapping (listedCategory (a .0)) (listedCategory (b .0)) f) _ (b .2) in
       subst (MigrationSound s t f) (accepted-same (c .2)) (record { S-sound = a .1; T-sound = b .1; F-sound = c .1 })
 
   migration-accepts : {m : Migration} → MigrationSound s t f m → migration s t f ≡ accepted m
@@ -81,11 +82,11 @@ module _ (s t f j : List ℕ) where
 pub record SigmaSound (s t f i : List ℕ) (m : Migration) (I : Instance) : Type 0 where
   pub migration-sound : MigrationSound s t f m
   pub I-sound : judgeInstance (m .S) i ≡ sound I
-  pub is-even : even (m .S) (m .T) (m .F) ≡ true
-  pub fits : sumOf (sigma (m .S) (m .T) (m .F) I .counts) ≤ maxRows
+  pub is-even : even (listedCategory (m .S)) (listedCategory (m .T)) (m .F) ≡ true
+  pub fits : sumOf (sigma (listedCategory (m .S)) (listedCategory (m .T)) (m .F) I .counts) ≤ maxRows
 
 abbrev pub sigmaResult : Migration → Instance → Migrated
-sigmaResult m I = record { schema = m .T; tables = sigma (m .S) (m .T) (m .F) I }
+sigmaResult m I = record { schema = m .T; tables = sigma (listedCategory (m .S)) (listedCategory (m .T)) (m .F) I }
 
 module _ (s t f i : List ℕ) where
   pub sigma-accepted : {P : Migrated} → sigmaTables s t f i ≡ accepted P → (m : Migration) × (I : Instance) × SigmaSound s t f i m I × (P ≡ sigmaResult m I)
@@ -93,19 +94,19 @@ module _ (s t f i : List ℕ) where
       let a = bind-accepted (migration s t f) _ e in
       let m = a .0 in
       let b = sheet-accepted 4 (judgeInstance (m .S) i) _ (a .2) in
-      let c = ensure-accepted (even (m .S) (m .T) (m .F)) 12 _ (b .2) in
-      let d = fits-accepted (sigma (m .S) (m .T) (m .F) (b .0)) _ (c .1) in
+      let c = ensure-accepted (even (listedCategory (m .S)) (listedCategory (m .T)) (m .F)) 12 _ (b .2) in
+      let d = fits-accepted (sigma (listedCategory (m .S)) (listedCategory (m .T)) (m .F) (b .0)) _ (c .1) in
       (m, b .0, record { migration-sound = migration-accepted s t f (a .1); I-sound = b .1; is-even = c .0; fits = d .0 }, sym (accepted-same (d .1)))
 
 pub record PiSound (s t f i : List ℕ) (m : Migration) (I : Instance) : Type 0 where
   pub migration-sound : MigrationSound s t f m
   pub I-sound : judgeInstance (m .S) i ≡ sound I
   pub is-bijective : isBijective (m .T) (m .F) ≡ true
-  pub few-components : hasFewComponents (m .S) (m .T) (m .F) ≡ true
-  pub fits : sumOf (pi (m .S) (m .T) (m .F) I .counts) ≤ maxRows
+  pub few-components : hasFewComponents (listedCategory (m .S)) (listedCategory (m .T)) (m .F) ≡ true
+  pub fits : sumOf (pi (listedCategory (m .S)) (listedCategory (m .T)) (m .F) I .counts) ≤ maxRows
 
 abbrev pub piResult : Migration → Instance → Migrated
-piResult m I = record { schema = m .T; tables = pi (m .S) (m .T) (m .F) I }
+piResult m I = record { schema = m .T; tables = pi (listedCategory (m .S)) (listedCategory (m .T)) (m .F) I }
 
 module _ (s t f i : List ℕ) where
   pub pi-accepted : {P : Migrated} → piTables s t f i ≡ accepted P → (m : Migration) × (I : Instance) × PiSound s t f i m I × (P ≡ piResult m I)
@@ -114,8 +115,8 @@ module _ (s t f i : List ℕ) where
       let m = a .0 in
       let b = sheet-accepted 4 (judgeInstance (m .S) i) _ (a .2) in
       let c = ensure-accepted (isBijective (m .T) (m .F)) 13 _ (b .2) in
-      let n = ensure-accepted (hasFewComponents (m .S) (m .T) (m .F)) 14 _ (c .1) in
-      let d = fits-accepted (pi (m .S) (m .T) (m .F) (b .0)) _ (n .1) in
+      let n = ensure-accepted (hasFewComponents (listedCategory (m .S)) (listedCategory (m .T)) (m .F)) 14 _ (c .1) in
+      let d = fits-accepted (pi (listedCategory (m .S)) (listedCategory (m .T)) (m .F) (b .0)) _ (n .1) in
       (m, b .0, record { migration-sound = migration-accepted s t f (a .1); I-sound = b .1; is-bijective = c .0; few-components = n .0; fits = d .0 }, sym (accepted-same (d .1)))
 
 -- ---- the run and the book, with both migrated tables
@@ -123,8 +124,8 @@ pub record SidesSound (s t f i j : List ℕ) (x : Sides) : Type 0 where
   pub migration-sound : MigrationSound s t f (x .m)
   pub run-sound : judgeInstance (x .m .S) i ≡ sound (x .run)
   pub book-sound : judgeInstance (x .m .T) j ≡ sound (x .book)
-  pub is-even : even (x .m .S) (x .m .T) (x .m .F) ≡ true
-  pub pushed-is : x .pushed ≡ sigma (x .m .S) (x .m .T) (x .m .F) (x .run)
+  pub is-even : even (listedCategory (x .m .S)) (listedCategory (x .m .T)) (x .m .F) ≡ true
+  pub pushed-is : x .pushed ≡ sigma (listedCategory (x .m .S)) (listedCategory (x .m .T)) (x .m .F) (x .run)
   pub pulled-is : x .pulled ≡ delta (x .m .S) (x .m .F) (x .book)
   pub pushed-fits : sumOf (x .pushed .counts) ≤ maxRows
   pub pulled-fits : sumOf (x .pulled .counts) ≤ maxRows
@@ -136,8 +137,8 @@ module _ (s t f i j : List ℕ) where
       let m = a .0 in
       let b = sheet-accepted 4 (judgeInstance (m .S) i) _ (a .2) in
       let c = sheet-accepted 5 (judgeInstance (m .T) j) _ (b .2) in
-      let d = ensure-accepted (even (m .S) (m .T) (m .F)) 12 _ (c .2) in
-      let p = fits-accepted (sigma (m .S) (m .T) (m .F) (b .0)) _ (d .1) in
+      let d = ensure-accepted (even (listedCategory (m .S)) (listedCategory (m .T)) (m .F)) 12 _ (c .2) in
+      let p = fits-accepted (sigma (listedCategory (m .S)) (listedCategory (m .T)) (m .F) (b .0)) _ (d .1) in
       let q = fits-accepted (delta (m .S) (m .F) (c .0)) _ (p .1) in
       subst (SidesSound s t f i j) (accepted-same (q .1)) (record {
         migration-sound = migration-accepted s t f (a .1);
@@ -152,14 +153,14 @@ module _ (s t f i j : List ℕ) where
 
   pub sides-accepts : {x : Sides} → SidesSound s t f i j x → sides s t f i j ≡ accepted x
   sides-accepts {x} h =
-      let pushed-fits : sumOf (sigma (x .m .S) (x .m .T) (x .m .F) (x .run) .counts) ≤ maxRows = rw (h .pushed-is) at (h .pushed-fits) in
+      let pushed-fits : sumOf (sigma (listedCategory (x .m .S)) (listedCategory (x .m .T)) (x .m .F) (x .run) .counts) ≤ maxRows = rw (h .pushed-is) at (h .pushed-fits) in
       let pulled-fits : sumOf (delta (x .m .S) (x .m .F) (x .book) .counts) ≤ maxRows = rw (h .pulled-is) at (h .pulled-fits) in
       rw (
         migration-accepts s t f (h .migration-sound),
         h .run-sound,
         h .book-sound,
         h .is-even,
-        le-leb (sumOf (sigma (x .m .S) (x .m .T) (x .m .F) (x .run) .counts)) maxRows pushed-fits,
+        le-leb (sumOf (sigma (listedCategory (x .m .S)) (listedCategory (x .m .T)) (x .m .F) (x .run) .counts)) maxRows pushed-fits,
         le-leb (sumOf (delta (x .m .S) (x .m .F) (x .book) .counts)) maxRows pulled-fits,
         ← h .pushed-is,
         ← h .pulled-is,

@@ -1,37 +1,40 @@
 -- The path question, chains and migrations on accepted sheets: which refusal of all sheets together, by what it counts, or which result.
-use Prim.Native.Nat.{ℕ, _<_}
+use Prim.Native.Nat.{ℕ, zero, suc, _<_, _≤_}
 use mathlib.Core.Path.{_≡_, refl, sym, ap, _∙_, subst}
 use mathlib.Core.Bool.{Bool, true, false, _&&_}
 use mathlib.Core.List.{List, [], _∷_, List·Memᴰ, List·Memᴰ·head, List·Memᴰ·tail}
 use mathlib.Core.Option.{Option, none, some}
 use mathlib.Core.Logic.{_↔_}
 use native.Mathlib.Omega.{arith}
-use lib.ListN.{length, length-map}
+use lib.ListN.{length, getD, length-map}
 use lib.Dec.{leb}
 use borrow.Author.Tests.{leb-true, leb-false, lt-leb, le-leb}
 use Rattle.theory.specs.Instance as theory
 use Rattle.theory.specs.Mapping.{Even, Bijective}
-use Rattle.theory.specs.Schema.{IsPath}
+use Rattle.theory.specs.Schema as theorySchema
+use Rattle.theory.specs.Schema.{IsPath, endpoint}
 use Rattle.theory.specs.Pi.{IsComponents, IsPi}
+use Rattle.theory.proofs.Schema.{path-start, chain-path}
 use Rattle.theory.proofs.Instance.{alike-rows}
 use Rattle.theory.proofs.Family.{components-one}
 use Rattle.meaning.specs.Lists.{all, upto, sumOf}
-use Rattle.meaning.specs.Schema.{Path, Schema, isPath}
+use Rattle.meaning.specs.Schema.{Path, Schema, target, end, isPath}
 use Rattle.meaning.specs.PathChain.{Step, firstChain}
-use Rattle.meaning.specs.PathEquality.{equal}
+use Rattle.meaning.specs.PathEquality.{firstPath}
+use Rattle.meaning.specs.Category.{Category, listedCategory}
 use Rattle.meaning.specs.Sheet.{sound, onSheet}
-use Rattle.meaning.specs.Formats.{Mapping, Instance, maxComponents, maxPaths, maxRows, readPathSheet, readChain, chainSheet}
+use Rattle.meaning.specs.Formats.{Mapping, Instance, maxComponents, maxPaths, maxRows, pathSheet, readPathSheet, readChain, chainSheet}
 use Rattle.meaning.specs.Views.{schemaOf, mappingOf, instanceOf}
 use Rattle.meaning.specs.Judge.{judgePath, judgeSchema}
 use Rattle.meaning.specs.Delta.{delta}
 use Rattle.meaning.specs.Evenness.{even}
 use Rattle.meaning.specs.Sigma.{sigma}
 use Rattle.meaning.specs.Pi.{isBijective, components, hasFewComponents, pi}
-use Rattle.meaning.specs.Calls.{Outcome, refused, accepted, _>>=_, ensure, ensureFits, samePath, explanation, pathChain, Migrated, deltaTables, sigmaTables, piTables, Lent, inTray}
+use Rattle.meaning.specs.Calls.{Outcome, refused, accepted, _>>=_, ensure, ensureFits, pathQuestion, explanation, pathChain, Migrated, deltaTables, sigmaTables, piTables, Lent, inTray}
 use Rattle.meaning.proofs.Lists.{no-bool, test-false, all-fails, upto-all, of-upto}
 use Rattle.meaning.proofs.Readers.{sound-same, bind-sound, ensure-sound}
 use Rattle.meaning.proofs.Facts.{schema-facts}
-use Rattle.meaning.proofs.Written.{chain-sheet-length, chain-read}
+use Rattle.meaning.proofs.Written.{path-sheet-read, chain-sheet-length, chain-read}
 use Rattle.agreement.specs.Paths.{EqualPaths, WellFormed, pathCount}
 use Rattle.agreement.specs.PathChains.{IsFirstChain, ChainAnswers}
 use Rattle.agreement.specs.Valid.{ValidMapping}
@@ -39,17 +42,17 @@ use Rattle.agreement.proofs.Valid.{mapping-valid, instance-valid}
 use Rattle.agreement.proofs.Tests.{refused-not-accepted, accepted-same}
 use Rattle.agreement.proofs.Outcomes.{accepted-tray}
 use Rattle.agreement.proofs.Tables.{rows-sum}
-use Rattle.agreement.proofs.Paths.{path-iff}
+use Rattle.agreement.proofs.Paths.{schema-is, path-iff, path-short, identical-iff}
 use Rattle.agreement.proofs.FirstChains.{first-chain, chain-some, chain-none-iff, first-chain-fits}
-use Rattle.agreement.proofs.Classes.{equal-paths-iff, unequal}
-use Rattle.agreement.proofs.Mappings.{schema-well-formed}
+use Rattle.agreement.proofs.FirstPaths.{first-equal, first-least, first-path}
+use Rattle.agreement.proofs.Categories.{first-same, equal-paths-iff, schema-well-formed, listed-category}
 use Rattle.agreement.proofs.Evenness.{even-iff}
 use Rattle.agreement.proofs.Delta.{delta-rows}
 use Rattle.agreement.proofs.Sigma.{sigma-never-overfull}
 use Rattle.agreement.proofs.Bijections.{bijective-iff}
 use Rattle.agreement.proofs.Pi.{pi-shaped, pi-is-pi, pi-only}
 use Rattle.agreement.proofs.Components.{asPair, asPairs, components-are}
-use Rattle.agreement.specs.Agrees.{PathAnswers, Inputs, DeltaOverfull, DeltaAnswers, SigmaAnswers, Wide, PiOverfull, PiAnswers}
+use Rattle.agreement.specs.Agrees.{PathAnswer, PathAnswers, Inputs, DeltaOverfull, DeltaAnswers, SigmaAnswers, Wide, PiOverfull, PiAnswers}
 
 -- a test that is false exactly where A holds is true exactly where A does not
 true-iff : {A : Type 0} (b : Bool) → (b ≡ false) ↔ A → (b ≡ true) ↔ (A → ⊥)
@@ -63,41 +66,41 @@ false-iff false h = (λ e a. no-bool (sym (h .1 a)), λ n. refl)
 
 -- ---- what they count
 
-module _ {S T : Schema} {F : Mapping} (v : ValidMapping S T F) where
+module _ {S T : Category} {F : Mapping} (v : ValidMapping S T F) where
   abbrev few : ℕ → Bool
   few d = leb (length (components S T F d)) maxComponents
 
   -- there is one list of components
-  as-many : (d : ℕ) → d < T .graph .nodes → (ks : List (ℕ × List ℕ)) → IsComponents (mappingOf S T F) d ks → length ks ≡ length (components S T F d)
+  as-many : (d : ℕ) → d < T .schema .graph .nodes → (ks : List (ℕ × List ℕ)) → IsComponents (mappingOf (S .schema) (T .schema) F) d ks → length ks ≡ length (components S T F d)
   as-many d h ks k = ap length (components-one k (components-are v d h)) ∙ length-map (components S T F d) asPair
 
-  wide-iff : (hasFewComponents S T F ≡ false) ↔ Wide (mappingOf S T F)
+  wide-iff : (hasFewComponents S T F ≡ false) ↔ Wide (mappingOf (S .schema) (T .schema) F)
   wide-iff = (
     wide,
     λ w. test-false (hasFewComponents S T F) (λ e.
-        let h = leb-true (length (components S T F (w .0))) maxComponents (upto-all few (T .graph .nodes) e (w .0) (w .1)) in
+        let h = leb-true (length (components S T F (w .0))) maxComponents (upto-all few (T .schema .graph .nodes) e (w .0) (w .1)) in
         let k = as-many (w .0) (w .1) (w .2) (w .3) in
         let l = w .4 in
         omega arith),
   )
     where
-      wide : hasFewComponents S T F ≡ false → Wide (mappingOf S T F)
+      wide : hasFewComponents S T F ≡ false → Wide (mappingOf (S .schema) (T .schema) F)
       wide e =
-          let r = all-fails few (upto (T .graph .nodes)) e in
+          let r = all-fails few (upto (T .schema .graph .nodes)) e in
           let d = r .0 in
-          let h = of-upto (T .graph .nodes) (r .1) in
+          let h = of-upto (T .schema .graph .nodes) (r .1) in
           let c = components-are v d h in
           (d, h, asPairs (components S T F d), c, rw (as-many d h (asPairs (components S T F d)) c) (leb-false (length (components S T F d)) maxComponents (r .2)))
 
-  module _ (I : Instance) (paired : Bijective (mappingOf S T F)) where
+  module _ (I : Instance) (paired : Bijective (mappingOf (S .schema) (T .schema) F)) where
     abbrev total : ℕ
     total = sumOf (pi S T F I .counts)
 
     -- every Pi has as many rows
-    as-many-rows : {P : theory.Instance ℕ} → IsPi (mappingOf S T F) (instanceOf I) P → theory.rows (schemaOf T) P ≡ total
-    as-many-rows P-is = alike-rows (pi-only v I paired P-is) ∙ rows-sum T (pi S T F I) (pi-shaped v I .tables)
+    as-many-rows : {P : theory.Instance ℕ} → IsPi (mappingOf (S .schema) (T .schema) F) (instanceOf I) P → theory.rows (schemaOf (T .schema)) P ≡ total
+    as-many-rows P-is = alike-rows (pi-only v I paired P-is) ∙ rows-sum (T .schema) (pi S T F I) (pi-shaped v I .tables)
 
-    overfull-iff : (leb total maxRows ≡ false) ↔ PiOverfull (mappingOf S T F) (instanceOf I)
+    overfull-iff : (leb total maxRows ≡ false) ↔ PiOverfull (mappingOf (S .schema) (T .schema) F) (instanceOf I)
     overfull-iff = (
       λ e. (instanceOf (pi S T F I), pi-is-pi v I paired, rw (as-many-rows (pi-is-pi v I paired)) (leb-false total maxRows e)),
       λ h. lt-leb total maxRows (rw (as-many-rows (h .1)) at (h .2)),
@@ -148,18 +151,18 @@ module _ (s t f i : List ℕ) {S T : Schema} {F : Mapping} {I : Instance} (x : I
   paired = isBijective T F
 
   abbrev narrow : Bool
-  narrow = hasFewComponents S T F
+  narrow = hasFewComponents (listedCategory S) (listedCategory T) F
 
   abbrev fitting : Bool
-  fitting = leb (sumOf (pi S T F I .counts)) maxRows
+  fitting = leb (sumOf (pi (listedCategory S) (listedCategory T) F I .counts)) maxRows
 
-  yields : piTables s t f i ≡ answer T (pi S T F I) paired narrow fitting
+  yields : piTables s t f i ≡ answer T (pi (listedCategory S) (listedCategory T) F I) paired narrow fitting
   yields = rw (x .S-accepted, x .T-accepted, x .F-accepted, x .I-accepted)
 
-  yields-iff : {o : Outcome Migrated} {A : Type 0} → (answer T (pi S T F I) paired narrow fitting ≡ o) ↔ A → (piTables s t f i ≡ o) ↔ A
+  yields-iff : {o : Outcome Migrated} {A : Type 0} → (answer T (pi (listedCategory S) (listedCategory T) F I) paired narrow fitting ≡ o) ↔ A → (piTables s t f i ≡ o) ↔ A
   yields-iff h = (λ e. h .0 (sym yields ∙ e), λ k. yields ∙ h .1 k)
 
-  v : ValidMapping S T F
+  v : ValidMapping (listedCategory S) (listedCategory T) F
   v = mapping-valid s t f (x .S-accepted) (x .T-accepted) (x .F-accepted)
 
   pairs : (paired ≡ true) ↔ Bijective (mappingOf S T F)
@@ -173,24 +176,24 @@ module _ (s t f i : List ℕ) {S T : Schema} {F : Mapping} {I : Instance} (x : I
       let narrows = true-iff narrow wide in
       record {
         unpaired = yields-iff (
-          λ e. unpaired .0 (answer-13 T (pi S T F I) paired narrow fitting .0 e),
-          λ h. answer-13 T (pi S T F I) paired narrow fitting .1 (unpaired .1 h),
+          λ e. unpaired .0 (answer-13 T (pi (listedCategory S) (listedCategory T) F I) paired narrow fitting .0 e),
+          λ h. answer-13 T (pi (listedCategory S) (listedCategory T) F I) paired narrow fitting .1 (unpaired .1 h),
         );
         wide = yields-iff (
-          λ e. let r = answer-14 T (pi S T F I) paired narrow fitting .0 e in (pairs .0 (r .0), wide .0 (r .1)),
-          λ h. answer-14 T (pi S T F I) paired narrow fitting .1 (pairs .1 (h .0), wide .1 (h .1)),
+          λ e. let r = answer-14 T (pi (listedCategory S) (listedCategory T) F I) paired narrow fitting .0 e in (pairs .0 (r .0), wide .0 (r .1)),
+          λ h. answer-14 T (pi (listedCategory S) (listedCategory T) F I) paired narrow fitting .1 (pairs .1 (h .0), wide .1 (h .1)),
         );
         overfull = yields-iff (
-          λ e. let r = answer-15 T (pi S T F I) paired narrow fitting .0 e in
+          λ e. let r = answer-15 T (pi (listedCategory S) (listedCategory T) F I) paired narrow fitting .0 e in
               let b = pairs .0 (r .0) in
               (b, narrows .0 (r .1), overfull-iff v I b .0 (r .2)),
-          λ h. answer-15 T (pi S T F I) paired narrow fitting .1 (pairs .1 (h .0), narrows .1 (h .1), overfull-iff v I (h .0) .1 (h .2)),
+          λ h. answer-15 T (pi (listedCategory S) (listedCategory T) F I) paired narrow fitting .1 (pairs .1 (h .0), narrows .1 (h .1), overfull-iff v I (h .0) .1 (h .2)),
         );
         result = (
-          λ e. let r = answer-result T (pi S T F I) paired narrow fitting .0 (e .0, sym yields ∙ e .1) in
+          λ e. let r = answer-result T (pi (listedCategory S) (listedCategory T) F I) paired narrow fitting .0 (e .0, sym yields ∙ e .1) in
               let b = pairs .0 (r .0) in
               (b, narrows .0 (r .1), true-iff fitting (overfull-iff v I b) .0 (r .2)),
-          λ h. let r = answer-result T (pi S T F I) paired narrow fitting .1 (pairs .1 (h .0), narrows .1 (h .1), true-iff fitting (overfull-iff v I (h .0)) .1 (h .2)) in
+          λ h. let r = answer-result T (pi (listedCategory S) (listedCategory T) F I) paired narrow fitting .1 (pairs .1 (h .0), narrows .1 (h .1), true-iff fitting (overfull-iff v I (h .0)) .1 (h .2)) in
               (r .0, yields ∙ r .1),
         );
       }
@@ -233,28 +236,28 @@ module _ (s t f i : List ℕ) {S T : Schema} {F : Mapping} {I : Instance} (x : I
   sigmaOutcome : Bool → Outcome Migrated
   sigmaOutcome r = do
     _ ← ensure r 12
-    P ← ensureFits (sigma S T F I)
+    P ← ensureFits (sigma (listedCategory S) (listedCategory T) F I)
     accepted (record { schema = T; tables = P })
 
-  sigma-yields : sigmaTables s t f i ≡ sigmaOutcome (even S T F)
+  sigma-yields : sigmaTables s t f i ≡ sigmaOutcome (even (listedCategory S) (listedCategory T) F)
   unfolding sigmaOutcome
   sigma-yields = rw (x .S-accepted, x .T-accepted, x .F-accepted, x .I-accepted)
 
-  v′ : ValidMapping S T F
+  v′ : ValidMapping (listedCategory S) (listedCategory T) F
   v′ = mapping-valid s t f (x .S-accepted) (x .T-accepted) (x .F-accepted)
 
   sigma-by : (r : Bool) → (r ≡ true → Even (mappingOf S T F)) → ((sigmaOutcome r ≡ refused 12 0) ↔ (r ≡ false)) × (((M : Migrated) × (sigmaOutcome r ≡ accepted M)) ↔ (r ≡ true))
   unfolding sigmaOutcome
   sigma-by true h =
       let e = sigma-never-overfull v′ (h refl) (instance-valid S i (x .I-accepted)) in
-      rw e ((λ k. absurd (refused-not-accepted (sym k)), λ k. absurd (no-bool k)), (λ k. refl, λ k. (record { schema = T; tables = sigma S T F I }, refl)))
+      rw e ((λ k. absurd (refused-not-accepted (sym k)), λ k. absurd (no-bool k)), (λ k. refl, λ k. (record { schema = T; tables = sigma (listedCategory S) (listedCategory T) F I }, refl)))
   sigma-by false h = ((λ e. refl, λ e. refl), (λ e. absurd (refused-not-accepted (e .1)), λ e. absurd (no-bool (sym e))))
 
   pub sigma-answers : SigmaAnswers s t f i (mappingOf S T F)
   sigma-answers =
       let w = even-iff v′ in
-      let b = sigma-by (even S T F) (w .0) in
-      let o = false-iff (even S T F) w in
+      let b = sigma-by (even (listedCategory S) (listedCategory T) F) (w .0) in
+      let o = false-iff (even (listedCategory S) (listedCategory T) F) w in
       record {
         uneven = (λ h. o .0 (b .0 .0 (sym sigma-yields ∙ h)), λ h. sigma-yields ∙ b .0 .1 (o .1 h));
         result = (λ h. w .0 (b .1 .0 (h .0, sym sigma-yields ∙ h .1)), λ h. let k = b .1 .1 (w .1 h) in (k .0, sigma-yields ∙ k .1));
@@ -270,10 +273,13 @@ no-steps : (x : Option (List Step)) → explanation x ≡ [] → x ≡ none
 no-steps none e = refl
 no-steps (some c) e = absurd (some-byte c (ap length e))
 
-module _ (s p q : List ℕ) {S : Schema} {P Q : Path} (a : judgeSchema s ≡ sound S) (b : judgePath (S .graph) p ≡ sound P) (c : judgePath (S .graph) q ≡ sound Q) where
-  path-yields : samePath s p q ≡ accepted (equal S P Q)
-  path-yields = rw (a, b, c)
+-- the edges of a path are below as many as there are
+edge-below : (S : theorySchema.Schema) (k n : ℕ) (p : List ℕ) → S .edges ≤ k → 0 < k → IsPath S n p → (i : ℕ) → getD p i 0 < k
+edge-below S k n [] l z h i = z
+edge-below S k n (e ∷ p) l z h zero = omega (arith, h .0)
+edge-below S k n (e ∷ p) l z h (suc i) = edge-below S k (S .tgt e) p l z (h .2) i
 
+module _ (s : List ℕ) {S : Schema} (a : judgeSchema s ≡ sound S) where
   is-path : (p : List ℕ) {P : Path} → judgePath (S .graph) p ≡ sound P → IsPath (schemaOf S) (P .start) (P .edges)
   is-path p {P} e =
       let r = bind-sound (onSheet readPathSheet p) _ e in
@@ -283,16 +289,53 @@ module _ (s p q : List ℕ) {S : Schema} {P Q : Path} (a : judgeSchema s ≡ sou
   formed : WellFormed S
   formed = schema-well-formed (schema-facts s a)
 
-  equal-iff : (equal S P Q ≡ true) ↔ EqualPaths S P Q
-  equal-iff = equal-paths-iff S formed P Q (is-path p b) (is-path q c)
+  -- a path's sheet is accepted as that path
+  path-lent : (p : Path) → IsPath (schemaOf S) (p .start) (p .edges) → judgePath (S .graph) (pathSheet p) ≡ sound p
+  path-lent p h =
+      let f = schema-facts s a in
+      let l = path-short S formed (p .start) (p .edges) h in
+      let n = path-start (schema-is S (f .well-formed)) (p .start) (p .edges) h in
+      let r = path-sheet-read p (omega (arith, f .nodes)) (omega (arith, f .nodes)) (edge-below (schemaOf S) 32 (p .start) (p .edges) (f .edges) (omega arith) h) in
+      rw (r, path-iff S (f .well-formed) (p .start) (p .edges) .1 h)
 
-  pub path-answers : PathAnswers s p q S P Q
-  path-answers =
-      let n = false-iff (equal S P Q) equal-iff in
+module _ (s p : List ℕ) {S : Schema} {P : Path} (a : judgeSchema s ≡ sound S) (b : judgePath (S .graph) p ≡ sound P) where
+  path-yields : pathQuestion s p ≡ accepted (pathSheet (firstPath S P))
+  path-yields = rw (a, b)
+
+  first-is-path : IsPath (schemaOf S) (firstPath S P .start) (firstPath S P .edges)
+  first-is-path = first-path S (formed s a) P (is-path s a p b)
+
+  -- the first path of the first path's class
+  first-again : firstPath S (firstPath S P) ≡ firstPath S P
+  first-again = sym (first-same (listed-category S (formed s a)) P (firstPath S P) (is-path s a p b) first-is-path (first-equal S (formed s a) P (is-path s a p b)))
+
+  pub path-answer : PathAnswer s p S P
+  path-answer =
+      let g = firstPath S P in
+      let r = path-lent s a g first-is-path in
       record {
-        yes = (λ h. equal-iff .0 (accepted-same (sym path-yields ∙ h)), λ h. path-yields ∙ ap accepted (equal-iff .1 h));
-        no = (λ h. n .0 (accepted-same (sym path-yields ∙ h)), λ h. path-yields ∙ ap accepted (n .1 h));
+        first = g;
+        answer = path-yields;
+        is-path = first-is-path;
+        equal = first-equal S (formed s a) P (is-path s a p b);
+        none-before = first-least S (formed s a) P (is-path s a p b);
+        read-back = r;
+        again = λ tray room. rw (a, r, first-again, le-leb (length (pathSheet g)) (length tray) room);
       }
+
+module _ (s p q : List ℕ) {S : Schema} {P Q : Path} (a : judgeSchema s ≡ sound S) (b : judgePath (S .graph) p ≡ sound P) (c : judgePath (S .graph) q ≡ sound Q) where
+  same-iff : (pathQuestion s p ≡ pathQuestion s q) ↔ EqualPaths S P Q
+  same-iff =
+      let t = equal-paths-iff (listed-category S (formed s a)) P Q (is-path s a p b) (is-path s a q c) in
+      let u = identical-iff (firstPath S P) (firstPath S Q) in (
+        λ e.
+            let k = accepted-same (sym (path-yields s p a b) ∙ e ∙ path-yields s q a c) in
+            t .0 (u .1 (sound-same (sym (path-lent s a (firstPath S P) (first-is-path s p a b)) ∙ ap (judgePath (S .graph)) k ∙ path-lent s a (firstPath S Q) (first-is-path s q a c)))),
+        λ h. path-yields s p a b ∙ ap (λ (x : Path). accepted (pathSheet x)) (u .0 (t .1 h)) ∙ sym (path-yields s q a c),
+      )
+
+  other-ends : (P .start ≡ Q .start → end (S .graph) P ≡ end (S .graph) Q → ⊥) → EqualPaths S P Q → ⊥
+  other-ends d h = d (h .starts) (chain-path (schema-is S (formed s a .fits)) (P .start) (h .chain) (is-path s a p b) .1 ∙ ap (λ (n : ℕ). endpoint (target (S .graph)) n (Q .edges)) (h .starts))
 
   -- ---- the chain between two paths
 
@@ -301,16 +344,16 @@ module _ (s p q : List ℕ) {S : Schema} {P Q : Path} (a : judgeSchema s ≡ sou
 
   none-iff : (pathChain s p q ≡ accepted []) ↔ (EqualPaths S P Q → ⊥)
   none-iff =
-      let h = chain-none-iff S formed P Q (is-path p b) in
+      let h = chain-none-iff S (formed s a) P Q (is-path s a p b) in
       (λ e. h .0 (no-steps (firstChain S P Q) (accepted-same (sym (explained-by refl) ∙ e))), λ n. explained-by (h .1 n))
 
   found : EqualPaths S P Q → (k : List Step) × (pathChain s p q ≡ accepted (chainSheet k)) × IsFirstChain S P Q k × (onSheet readChain (chainSheet k) ≡ sound k)
   found r =
       let f = schema-facts s a in
-      let h = is-path p b in
-      let k = chain-some S formed P Q h r in
-      let first = first-chain S formed P Q (k .0) h (leb-true (pathCount (S .graph)) maxPaths (f .few-paths)) (k .1) in
-      (k .0, explained-by (k .1), first, chain-read (k .0) (first .few) (first-chain-fits S formed P Q (k .0) h (f .equations) (f .nodes) (k .1)))
+      let h = is-path s a p b in
+      let k = chain-some S (formed s a) P Q h r in
+      let first = first-chain S (formed s a) P Q (k .0) h (leb-true (pathCount (S .graph)) maxPaths (f .few-paths)) (k .1) in
+      (k .0, explained-by (k .1), first, chain-read (k .0) (first .few) (first-chain-fits S (formed s a) P Q (k .0) h (f .equations) (f .nodes) (k .1)))
 
   left-alone : pathChain s p q ≡ accepted [] → (tray : List ℕ) → inTray tray (pathChain s p q) ≡ record { answer = accepted 0; tray = tray }
   left-alone e tray = rw (e, le-leb 0 (length tray) (omega arith))
@@ -325,6 +368,13 @@ module _ (s p q : List ℕ) {S : Schema} {P Q : Path} (a : judgeSchema s ≡ sou
       λ n. ap (λ (l : Lent). l .answer) (left-alone (none-iff .1 n) tray),
     );
     untouched = left-alone;
-    apart = λ h. none-iff .1 (false-iff (equal S P Q) equal-iff .0 (unequal S formed P Q (is-path p b) (is-path q c) h));
+    apart = λ h. none-iff .1 (other-ends h);
     chain = found;
+  }
+
+  pub path-answers : PathAnswers s p q S P Q
+  path-answers = record {
+    same = same-iff;
+    apart = λ d e. other-ends d (same-iff .0 e);
+    none = (λ e h. none-iff .0 e (same-iff .0 h), λ n. none-iff .1 (λ r. n (same-iff .1 r)));
   }

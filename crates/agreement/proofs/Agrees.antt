@@ -15,8 +15,8 @@ use Rattle.agreement.specs.Valid.{ValidInstance}
 use Rattle.agreement.specs.Agrees.{SchemaAgrees, Lendable, Inputs, DeltaAgrees, SigmaAgrees, PiAgrees}
 use Rattle.agreement.proofs.Paths.{schema-is, paths-listed}
 use Rattle.agreement.proofs.Loops.{height-is}
-use Rattle.agreement.proofs.Classes.{equal-paths-iff, unequal, class-first}
-use Rattle.agreement.proofs.Mappings.{schema-well-formed}
+use Rattle.agreement.proofs.FirstPaths.{class-iff, class-sorted, first-is}
+use Rattle.agreement.proofs.Categories.{equal-paths-iff, unequal, schema-well-formed, listed-category}
 use Rattle.agreement.proofs.Accepted.{MigrationSound, DeltaSound, deltaResult, delta-accepted, SigmaSound, sigmaResult, sigma-accepted, PiSound, piResult, pi-accepted}
 use Rattle.agreement.proofs.Valid.{mapping-valid, instance-valid, valid-lent-again}
 use Rattle.agreement.proofs.Evenness.{even-iff}
@@ -32,9 +32,11 @@ schema-agrees s {S} e =
     record {
       is-schema = schema-is S (f .well-formed);
       paths = paths-listed S wf;
-      equality = equal-paths-iff S wf;
-      apart = unequal S wf;
-      first = λ p. class-first S wf (p .start) (p .edges);
+      equality = equal-paths-iff (listed-category S wf);
+      apart = unequal (listed-category S wf);
+      class = class-iff S wf;
+      class-in-order = class-sorted S;
+      first = first-is S wf;
       heights = height-is S (f .well-formed) (f .loop-free);
     }
 

@@ -12,7 +12,7 @@ use borrow.Author.Tests.{eqb-true, eq-eqb}
 use Rattle.theory.specs.Mapping.{Bijective}
 use Rattle.theory.proofs.Order.{mem-getD, mem-position}
 use Rattle.meaning.specs.Lists.{filter, consIf}
-use Rattle.meaning.specs.Schema.{Schema}
+use Rattle.meaning.specs.Category.{Category}
 use Rattle.meaning.specs.Formats.{Mapping}
 use Rattle.meaning.specs.Views.{attributeImage, mappingOf}
 use Rattle.meaning.specs.Pi.{isBijective, attributeTo}
@@ -62,17 +62,17 @@ module _ {A : Type 0} (f : A → Bool) (z : A) where
       rw (test-false (f x) (λ p. omega (arith, o .one 0 (omega arith) p)))
       (passes-one l i (record { inside = omega (arith, o .inside); passes = o .passes; one = λ j h p. omega (arith, o .one (suc j) (omega arith) p) }))
 
-module _ {S T : Schema} {F : Mapping} (v : ValidMapping S T F) where
-  pub bijective-iff : (isBijective T F ≡ true) ↔ Bijective (mappingOf S T F)
+module _ {S T : Category} {F : Mapping} (v : ValidMapping S T F) where
+  pub bijective-iff : (isBijective (T .schema) F ≡ true) ↔ Bijective (mappingOf (S .schema) (T .schema) F)
   bijective-iff = (to, back)
     where
       pairs : ℕ → Bool
       pairs b = eqb (length (filter (eqb b) (F .attributes))) 1
 
-      image-of : isBijective T F ≡ true → (b : ℕ) → b < length (T .attributes) → (a : ℕ) × Only (eqb b) 0 (F .attributes) a
-      image-of h b l = one-passes (eqb b) 0 (F .attributes) (eqb-true (length (filter (eqb b) (F .attributes))) 1 (upto-all pairs (length (T .attributes)) h b l))
+      image-of : isBijective (T .schema) F ≡ true → (b : ℕ) → b < length (T .schema .attributes) → (a : ℕ) × Only (eqb b) 0 (F .attributes) a
+      image-of h b l = one-passes (eqb b) 0 (F .attributes) (eqb-true (length (filter (eqb b) (F .attributes))) 1 (upto-all pairs (length (T .schema .attributes)) h b l))
 
-      to : isBijective T F ≡ true → Bijective (mappingOf S T F)
+      to : isBijective (T .schema) F ≡ true → Bijective (mappingOf (S .schema) (T .schema) F)
       to h = record {
         onto = λ b l. let r = image-of h b l in (r .0, rw (v .attributes) at (r .1 .inside), sym (eqb-true b (attributeImage F (r .0)) (r .1 .passes)));
         one = λ a k i j e.
@@ -81,8 +81,8 @@ module _ {S T : Schema} {F : Mapping} (v : ValidMapping S T F) where
             r .1 .one a (rw (v .attributes) i) (eq-eqb b b refl) ∙ sym (r .1 .one k (rw (v .attributes) j) (eq-eqb b (attributeImage F k) e));
       }
 
-      back : Bijective (mappingOf S T F) → isBijective T F ≡ true
-      back k = all-upto pairs (length (T .attributes)) (λ b l.
+      back : Bijective (mappingOf (S .schema) (T .schema) F) → isBijective (T .schema) F ≡ true
+      back k = all-upto pairs (length (T .schema .attributes)) (λ b l.
           let r = k .onto b l in
           eq-eqb (length (filter (eqb b) (F .attributes))) 1 (passes-one (eqb b) 0 (F .attributes) (r .0) (record {
             inside = rw (v .attributes) (r .1);
@@ -91,7 +91,7 @@ module _ {S T : Schema} {F : Mapping} (v : ValidMapping S T F) where
           })))
 
   -- the attribute of S whose image is that of a is a
-  pub attributeTo-image : Bijective (mappingOf S T F) → (a : ℕ) → a < length (S .attributes) → attributeTo F (attributeImage F a) ≡ a
+  pub attributeTo-image : Bijective (mappingOf (S .schema) (T .schema) F) → (a : ℕ) → a < length (S .schema .attributes) → attributeTo F (attributeImage F a) ≡ a
   attributeTo-image k a h =
       let b = attributeImage F a in
       let i : a < length (F .attributes) = rw (v .attributes) h in

@@ -19,6 +19,7 @@ use Rattle.theory.proofs.Matching.{matching-alike}
 use Rattle.theory.proofs.Transposition.{corresponds}
 use Rattle.meaning.specs.Lists.{sumOf}
 use Rattle.meaning.specs.Schema.{Schema}
+use Rattle.meaning.specs.Category.{listedCategory}
 use Rattle.meaning.specs.Formats.{Mapping, Instance, maxRows, kinds}
 use Rattle.meaning.specs.Views.{schemaOf, mappingOf, count, instanceOf}
 use Rattle.meaning.specs.Delta.{delta}
@@ -55,12 +56,12 @@ module _ {s t f i j : List ℕ} (x : Provided s t f i j) where
 
   -- both migrated tables, as the calls make them
   abbrev pushed : Instance
-  pushed = sigma (x .S) (x .T) (x .F) (x .run)
+  pushed = sigma (listedCategory (x .S)) (listedCategory (x .T)) (x .F) (x .run)
 
   abbrev pulled : Instance
   pulled = delta (x .S) (x .F) (x .book)
 
-  F-valid : ValidMapping (x .S) (x .T) (x .F)
+  F-valid : ValidMapping (listedCategory (x .S)) (listedCategory (x .T)) (x .F)
   F-valid = mapping-valid s t f (x .S-accepted) (x .T-accepted) (x .F-accepted)
 
   F-is : theoryMapping.IsMapping F
@@ -217,7 +218,7 @@ module _ (s t f i j : List ℕ) where
         F = F;
         run = y .run;
         book = y .book;
-        pushed = instanceOf (sigma S T F (y .run));
+        pushed = instanceOf (sigma (listedCategory S) (listedCategory T) F (y .run));
         S-accepted = m .S-sound;
         T-accepted = m .T-sound;
         F-accepted = m .F-sound;
@@ -225,7 +226,7 @@ module _ (s t f i j : List ℕ) where
         run-accepted = h .run-sound;
         book-accepted = h .book-sound;
         pushed-is = sigma-is-sigma F-valid E run-valid;
-        pushed-accepted = let p = sigma-valid F-valid E run-valid in rw (rows-sum T (sigma S T F (y .run)) (p .shaped .tables)) (p .few-rows);
+        pushed-accepted = let p = sigma-valid F-valid E run-valid in rw (rows-sum T (sigma (listedCategory S) (listedCategory T) F (y .run)) (p .shaped .tables)) (p .few-rows);
         pulled-accepted = rw (delta-rows F-valid (y .book) (book-valid .shaped)) (rw (h .pulled-is) at (h .pulled-fits));
       }
 

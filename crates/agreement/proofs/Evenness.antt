@@ -8,22 +8,22 @@ use native.Mathlib.Omega.{arith}
 use lib.ListN.{length}
 use lib.Dec.{eqb}
 use borrow.Author.Tests.{eqb-true, eq-eqb}
-use Rattle.theory.specs.Schema.{IsPath}
+use Rattle.theory.specs.Schema.{IsPath, Chain}
 use Rattle.theory.specs.Mapping.{image, IsLift, IsAttributeOver, Even}
 use Rattle.theory.specs.Pi.{Sorted}
-use Rattle.theory.proofs.Schema.{chain-path}
-use Rattle.theory.proofs.Mapping.{image-path}
+use Rattle.theory.proofs.Schema.{chain-trans, chain-sym, chain-path}
+use Rattle.theory.proofs.Mapping.{image-path, image-chain}
 use Rattle.meaning.specs.Lists.{upto, all, headOr}
-use Rattle.meaning.specs.Schema.{Path, path, Schema, attributeAt, pathsFrom}
-use Rattle.meaning.specs.PathEquality.{equal, classOf}
+use Rattle.meaning.specs.Schema.{Path, path, Schema, attributeAt}
+use Rattle.meaning.specs.Category.{Category, equal}
 use Rattle.meaning.specs.Formats.{Mapping}
 use Rattle.meaning.specs.Views.{schemaOf, nodeImage, edgeImage, attributeImage, pathImage, mappingOf}
 use Rattle.meaning.specs.Evenness.{lifts, oneClass, attributesAt, attributesOver, evenAt, even}
 use Rattle.meaning.specs.Sigma.{lift, attributeOver}
 use Rattle.meaning.proofs.Tabulate.{and-both}
 use Rattle.meaning.proofs.Lists.{no-bool, and-intro, filter-in, filter-of, all-in, all-of, in-upto, of-upto, all-upto, upto-all, sorted-filter, sorted-upto}
-use Rattle.agreement.proofs.Paths.{pathsFrom-each}
-use Rattle.agreement.proofs.Classes.{equal-iff}
+use Rattle.agreement.proofs.Paths.{identical-iff}
+use Rattle.agreement.proofs.Categories.{first-same, equal-iff}
 use Rattle.agreement.specs.Valid.{ValidMapping}
 
 -- ---- lists
@@ -56,22 +56,22 @@ length-one (x ∷ y ∷ l) e a b i j = absurd (omega arith)
 
 -- ---- one class
 
-module _ (S : Schema) where
+module _ (S : Category) where
   pub oneClass-some : (l : List Path) → oneClass S l ≡ true → (p : Path) × List·Memᴰ p l
   oneClass-some [] e = absurd (no-bool (sym e))
   oneClass-some (p ∷ l) e = (p, List·Memᴰ·head refl)
 
-  pub oneClass-same : (l : List Path) → oneClass S l ≡ true → (p q : Path) → List·Memᴰ p l → List·Memᴰ q l → classOf S p ≡ classOf S q
+  pub oneClass-same : (l : List Path) → oneClass S l ≡ true → (p q : Path) → List·Memᴰ p l → List·Memᴰ q l → S .firstPath p ≡ S .firstPath q
   oneClass-same [] e p q i j = absurd (List·Memᴰ·not-nil i)
   oneClass-same (r ∷ l) e p q i j = sym (go p (List·Memᴰ·cases-cons i)) ∙ go q (List·Memᴰ·cases-cons j)
     where
-      go : (p : Path) → (p ≡ r) ⊎ List·Memᴰ p l → classOf S r ≡ classOf S p
-      go p (inl h) = ap (classOf S) (sym h)
-      go p (inr m) = eqb-true (classOf S r) (classOf S p) (all-of (equal S r) l e m)
+      go : (p : Path) → (p ≡ r) ⊎ List·Memᴰ p l → S .firstPath r ≡ S .firstPath p
+      go p (inl h) = ap (S .firstPath) (sym h)
+      go p (inr m) = identical-iff (S .firstPath r) (S .firstPath p) .0 (all-of (equal S r) l e m)
 
-  pub same-oneClass : (l : List Path) {p : Path} → List·Memᴰ p l → ((p q : Path) → List·Memᴰ p l → List·Memᴰ q l → classOf S p ≡ classOf S q) → oneClass S l ≡ true
+  pub same-oneClass : (l : List Path) {p : Path} → List·Memᴰ p l → ((p q : Path) → List·Memᴰ p l → List·Memᴰ q l → S .firstPath p ≡ S .firstPath q) → oneClass S l ≡ true
   same-oneClass [] m h = absurd (List·Memᴰ·not-nil m)
-  same-oneClass (r ∷ l) m h = all-in (equal S r) l (λ q j. eq-eqb (classOf S r) (classOf S q) (h r q (List·Memᴰ·head refl) (List·Memᴰ·tail j)))
+  same-oneClass (r ∷ l) m h = all-in (equal S r) l (λ q j. identical-iff (S .firstPath r) (S .firstPath q) .1 (h r q (List·Memᴰ·head refl) (List·Memᴰ·tail j)))
 
 -- ---- attributes
 
@@ -107,97 +107,131 @@ module _ (S T : Schema) (F : Mapping) where
 
 -- ---- lifts
 
-module _ {S T : Schema} {F : Mapping} (v : ValidMapping S T F) where
-  -- the lifts of q at c
-  pub lifts-each : (c : ℕ) → c < S .graph .nodes → (q : List ℕ) → IsPath (schemaOf T) (nodeImage F c) q
-      → (p : Path) → List·Memᴰ p (lifts S T F c (path (nodeImage F c) q)) ↔ ((p .start ≡ c) × IsLift (mappingOf S T F) c q (p .edges))
+module _ {S T : Category} {F : Mapping} (v : ValidMapping S T F) where
+  -- the listed lifts of q at c
+  pub lifts-each : (c : ℕ) → c < S .schema .graph .nodes → (q : List ℕ) → IsPath (schemaOf (T .schema)) (nodeImage F c) q
+      → (p : Path) → List·Memᴰ p (lifts S T F c (path (nodeImage F c) q)) ↔ (List·Memᴰ p (S .pathsFrom c) × (p .start ≡ c) × IsLift (mappingOf (S .schema) (T .schema) F) c q (p .edges))
   lifts-each c h q j p = (to, back)
     where
       over : Path → Bool
       over p = equal T (pathImage F p) (path (nodeImage F c) q)
 
-      to : List·Memᴰ p (lifts S T F c (path (nodeImage F c) q)) → (p .start ≡ c) × IsLift (mappingOf S T F) c q (p .edges)
+      to : List·Memᴰ p (lifts S T F c (path (nodeImage F c) q)) → List·Memᴰ p (S .pathsFrom c) × (p .start ≡ c) × IsLift (mappingOf (S .schema) (T .schema) F) c q (p .edges)
       to m =
-          let u = filter-of over (pathsFrom (S .graph) c) m in
-          let k = pathsFrom-each S (v .S-formed) c h p .0 (u .0) in
+          let u = filter-of over (S .pathsFrom c) m in
+          let k = v .S-is .from-path c h p (u .0) in
           let e : equal T (path (nodeImage F c) (image (edgeImage F) (p .edges))) (path (nodeImage F c) q) ≡ true = rw (k .0) at (u .1) in
-          (k .0, record { path = k .1; image-is = equal-iff T (v .T-formed) (nodeImage F c) (image (edgeImage F) (p .edges)) q (image-path (v .is) c (p .edges) (k .1)) j .0 e })
+          (u .0, k .0, record { path = k .1; image-is = equal-iff (v .T-is) (nodeImage F c) (image (edgeImage F) (p .edges)) q (image-path (v .is) c (p .edges) (k .1)) j .0 e })
 
-      back : (p .start ≡ c) × IsLift (mappingOf S T F) c q (p .edges) → List·Memᴰ p (lifts S T F c (path (nodeImage F c) q))
+      back : List·Memᴰ p (S .pathsFrom c) × (p .start ≡ c) × IsLift (mappingOf (S .schema) (T .schema) F) c q (p .edges) → List·Memᴰ p (lifts S T F c (path (nodeImage F c) q))
       back o =
-          filter-in over (pathsFrom (S .graph) c) (pathsFrom-each S (v .S-formed) c h p .1 (o .0, o .1 .path))
-          (rw (o .0) (equal-iff T (v .T-formed) (nodeImage F c) (image (edgeImage F) (p .edges)) q (image-path (v .is) c (p .edges) (o .1 .path)) j .1 (o .1 .image-is)))
+          filter-in over (S .pathsFrom c) (o .0)
+          (rw (o .1) (equal-iff (v .T-is) (nodeImage F c) (image (edgeImage F) (p .edges)) q (image-path (v .is) c (p .edges) (o .2 .path)) j .1 (o .2 .image-is)))
 
-  lifts-oneClass : Even (mappingOf S T F) → (c : ℕ) → c < S .graph .nodes → (q : List ℕ) → IsPath (schemaOf T) (nodeImage F c) q → oneClass S (lifts S T F c (path (nodeImage F c) q)) ≡ true
+  -- each lift equals a listed one
+  listed-lift : (c : ℕ) → c < S .schema .graph .nodes → (q : List ℕ) → IsPath (schemaOf (T .schema)) (nodeImage F c) q
+      → (p : List ℕ) → IsLift (mappingOf (S .schema) (T .schema) F) c q p → (g : List ℕ) × List·Memᴰ (path c g) (lifts S T F c (path (nodeImage F c) q)) × Chain (schemaOf (S .schema)) c p g
+  listed-lift c h q j p o =
+      let w = v .S-is .first (path c p) (o .path) in
+      let g = S .firstPath (path c p) .edges in
+      let k = chain-path (v .is .S-is) c (w .equal .chain) (o .path) in
+      (g, lifts-each c h q j (path c g) .1 (v .S-is .listed c h g (w .first), refl, record { path = k .0; image-is = chain-trans (chain-sym (image-chain (v .is) c (w .equal .chain) (o .path))) (o .image-is) }), w .equal .chain)
+
+  -- each path of T from F(c) equals a listed one
+  listed-path : (c : ℕ) → c < S .schema .graph .nodes → (q : List ℕ) → IsPath (schemaOf (T .schema)) (nodeImage F c) q
+      → (g : List ℕ) × List·Memᴰ (path (nodeImage F c) g) (T .pathsFrom (nodeImage F c)) × Chain (schemaOf (T .schema)) (nodeImage F c) q g
+  listed-path c h q j =
+      let w = v .T-is .first (path (nodeImage F c) q) j in
+      let g = T .firstPath (path (nodeImage F c) q) .edges in
+      (g, v .T-is .listed (nodeImage F c) (v .is .node-in c h) g (w .first), w .equal .chain)
+
+  lift-chain : {c : ℕ} {q r p : List ℕ} → IsLift (mappingOf (S .schema) (T .schema) F) c q p → Chain (schemaOf (T .schema)) (nodeImage F c) q r → IsLift (mappingOf (S .schema) (T .schema) F) c r p
+  lift-chain o r = record { path = o .path; image-is = chain-trans (o .image-is) r }
+
+  class-chain : (c : ℕ) (p q : List ℕ) → IsPath (schemaOf (S .schema)) c p → IsPath (schemaOf (S .schema)) c q → S .firstPath (path c p) ≡ S .firstPath (path c q) → Chain (schemaOf (S .schema)) c p q
+  class-chain c p q h k e = equal-iff (v .S-is) c p q h k .0 (identical-iff (S .firstPath (path c p)) (S .firstPath (path c q)) .1 e)
+
+  lifts-oneClass : Even (mappingOf (S .schema) (T .schema) F) → (c : ℕ) → c < S .schema .graph .nodes → (q : List ℕ) → IsPath (schemaOf (T .schema)) (nodeImage F c) q → oneClass S (lifts S T F c (path (nodeImage F c) q)) ≡ true
   lifts-oneClass E c h q j =
       let u = E .lift c h q j in
-      same-oneClass S (lifts S T F c (path (nodeImage F c) q)) (lifts-each c h q j (path c (u .0)) .1 (refl, u .1)) (λ p r x y.
-      let o = lifts-each c h q j p .0 x in
-      let w = lifts-each c h q j r .0 y in
-      let e = equal-iff S (v .S-formed) c (p .edges) (r .edges) (o .1 .path) (w .1 .path) .1 (E .lift-one c h q (p .edges) (r .edges) (o .1) (w .1)) in
-      let k = eqb-true (classOf S (path c (p .edges))) (classOf S (path c (r .edges))) e in
-      ap (λ (n : ℕ). classOf S (path n (p .edges))) (o .0) ∙ k ∙ ap (λ (n : ℕ). classOf S (path n (r .edges))) (sym (w .0)))
+      same-oneClass S (lifts S T F c (path (nodeImage F c) q)) (listed-lift c h q j (u .0) (u .1) .1) (λ p r m n.
+      let a = lifts-each c h q j p .0 m in
+      let b = lifts-each c h q j r .0 n in
+      let e = E .lift-one c h q (p .edges) (r .edges) (a .2) (b .2) in
+      let k = first-same (v .S-is) (path c (p .edges)) (path c (r .edges)) (a .2 .path) (b .2 .path) (record { starts = refl; chain = e }) in
+      ap (λ (n : ℕ). S .firstPath (path n (p .edges))) (a .1) ∙ k ∙ ap (λ (n : ℕ). S .firstPath (path n (r .edges))) (sym (b .1)))
 
-  even-test : Even (mappingOf S T F) → even S T F ≡ true
-  even-test E = all-upto (evenAt S T F) (S .graph .nodes) (λ c h. and-intro
-      (all-in (λ (q : Path). oneClass S (lifts S T F c q)) (pathsFrom (T .graph) (nodeImage F c)) (λ q m.
-      let k = pathsFrom-each T (v .T-formed) (nodeImage F c) (v .is .node-in c h) q .0 m in
+  even-test : Even (mappingOf (S .schema) (T .schema) F) → even S T F ≡ true
+  even-test E = all-upto (evenAt S T F) (S .schema .graph .nodes) (λ c h. and-intro
+      (all-in (λ (q : Path). oneClass S (lifts S T F c q)) (T .pathsFrom (nodeImage F c)) (λ q m.
+      let k = v .T-is .from-path (nodeImage F c) (v .is .node-in c h) q m in
       subst (λ (n : ℕ). oneClass S (lifts S T F c (path n (q .edges))) ≡ true) (sym (k .0)) (lifts-oneClass E c h (q .edges) (k .1))))
-      (all-in (λ (b : ℕ). eqb (length (attributesOver S F c b)) 1) (attributesAt T (nodeImage F c)) (λ b m.
-      let k = attributesAt-each T (nodeImage F c) b .0 m in
+      (all-in (λ (b : ℕ). eqb (length (attributesOver (S .schema) F c b)) 1) (attributesAt (T .schema) (nodeImage F c)) (λ b m.
+      let k = attributesAt-each (T .schema) (nodeImage F c) b .0 m in
       let u = E .attribute c h b (k .0) (k .1) in
-      eq-eqb (length (attributesOver S F c b)) 1 (one-length (attributesOver S F c b) (attributesOver-sorted S T F c b) (attributesOver-each S T F c b (u .0) .1 (u .1)) (λ a d x y.
-      E .attribute-one c h b a d (attributesOver-each S T F c b a .0 x) (attributesOver-each S T F c b d .0 y))))))
+      eq-eqb (length (attributesOver (S .schema) F c b)) 1 (one-length (attributesOver (S .schema) F c b) (attributesOver-sorted (S .schema) (T .schema) F c b) (attributesOver-each (S .schema) (T .schema) F c b (u .0) .1 (u .1)) (λ a d x y.
+      E .attribute-one c h b a d (attributesOver-each (S .schema) (T .schema) F c b a .0 x) (attributesOver-each (S .schema) (T .schema) F c b d .0 y))))))
 
   module _ (e : even S T F ≡ true) where
-    parts : (c : ℕ) → c < S .graph .nodes
-        → (all (λ q. oneClass S (lifts S T F c q)) (pathsFrom (T .graph) (nodeImage F c)) ≡ true) × (all (λ b. eqb (length (attributesOver S F c b)) 1) (attributesAt T (nodeImage F c)) ≡ true)
-    parts c h = and-both _ _ (upto-all (evenAt S T F) (S .graph .nodes) e c h)
+    parts : (c : ℕ) → c < S .schema .graph .nodes
+        → (all (λ q. oneClass S (lifts S T F c q)) (T .pathsFrom (nodeImage F c)) ≡ true) × (all (λ b. eqb (length (attributesOver (S .schema) F c b)) 1) (attributesAt (T .schema) (nodeImage F c)) ≡ true)
+    parts c h = and-both _ _ (upto-all (evenAt S T F) (S .schema .graph .nodes) e c h)
 
-    lifts-one : (c : ℕ) → c < S .graph .nodes → (q : List ℕ) → IsPath (schemaOf T) (nodeImage F c) q → oneClass S (lifts S T F c (path (nodeImage F c) q)) ≡ true
-    lifts-one c h q j =
-        all-of (λ (q : Path). oneClass S (lifts S T F c q)) (pathsFrom (T .graph) (nodeImage F c)) (parts c h .0)
-        (pathsFrom-each T (v .T-formed) (nodeImage F c) (v .is .node-in c h) (path (nodeImage F c) q) .1 (refl, j))
+    lifts-one : (c : ℕ) → c < S .schema .graph .nodes → (g : List ℕ) → List·Memᴰ (path (nodeImage F c) g) (T .pathsFrom (nodeImage F c)) → oneClass S (lifts S T F c (path (nodeImage F c) g)) ≡ true
+    lifts-one c h g m = all-of (λ (q : Path). oneClass S (lifts S T F c q)) (T .pathsFrom (nodeImage F c)) (parts c h .0) m
 
-    attributes-one : (c : ℕ) → c < S .graph .nodes → (b : ℕ) → b < length (T .attributes) → attributeAt T b .node ≡ nodeImage F c → length (attributesOver S F c b) ≡ 1
+    some-lift : (c : ℕ) → c < S .schema .graph .nodes → (q : List ℕ) → IsPath (schemaOf (T .schema)) (nodeImage F c) q → (p : List ℕ) × IsLift (mappingOf (S .schema) (T .schema) F) c q p
+    some-lift c h q j =
+        let w = listed-path c h q j in
+        let i = chain-path (v .is .T-is) (nodeImage F c) (w .2) j .0 in
+        let k = oneClass-some S (lifts S T F c (path (nodeImage F c) (w .0))) (lifts-one c h (w .0) (w .1)) in
+        (k .0 .edges, lift-chain (lifts-each c h (w .0) i (k .0) .0 (k .1) .2) (chain-sym (w .2)))
+
+    one-lift : (c : ℕ) → c < S .schema .graph .nodes → (q p r : List ℕ) → IsLift (mappingOf (S .schema) (T .schema) F) c q p → IsLift (mappingOf (S .schema) (T .schema) F) c q r → Chain (schemaOf (S .schema)) c p r
+    one-lift c h q p r o u =
+        let j = chain-path (v .is .T-is) (nodeImage F c) (o .image-is) (image-path (v .is) c p (o .path)) .0 in
+        let w = listed-path c h q j in
+        let i = chain-path (v .is .T-is) (nodeImage F c) (w .2) j .0 in
+        let a = listed-lift c h (w .0) i p (lift-chain o (w .2)) in
+        let b = listed-lift c h (w .0) i r (lift-chain u (w .2)) in
+        let x = lifts-each c h (w .0) i (path c (a .0)) .0 (a .1) .2 .path in
+        let y = lifts-each c h (w .0) i (path c (b .0)) .0 (b .1) .2 .path in
+        let e = oneClass-same S (lifts S T F c (path (nodeImage F c) (w .0))) (lifts-one c h (w .0) (w .1)) (path c (a .0)) (path c (b .0)) (a .1) (b .1) in
+        chain-trans (a .2) (chain-trans (class-chain c (a .0) (b .0) x y e) (chain-sym (b .2)))
+
+    attributes-one : (c : ℕ) → c < S .schema .graph .nodes → (b : ℕ) → b < length (T .schema .attributes) → attributeAt (T .schema) b .node ≡ nodeImage F c → length (attributesOver (S .schema) F c b) ≡ 1
     attributes-one c h b i g =
-        eqb-true (length (attributesOver S F c b)) 1
-        (all-of (λ (b : ℕ). eqb (length (attributesOver S F c b)) 1) (attributesAt T (nodeImage F c)) (parts c h .1) (attributesAt-each T (nodeImage F c) b .1 (i, g)))
+        eqb-true (length (attributesOver (S .schema) F c b)) 1
+        (all-of (λ (b : ℕ). eqb (length (attributesOver (S .schema) F c b)) 1) (attributesAt (T .schema) (nodeImage F c)) (parts c h .1) (attributesAt-each (T .schema) (nodeImage F c) b .1 (i, g)))
 
-    even-is : Even (mappingOf S T F)
+    even-is : Even (mappingOf (S .schema) (T .schema) F)
     even-is = record {
-      lift = λ c h q j.
-          let k = oneClass-some S (lifts S T F c (path (nodeImage F c) q)) (lifts-one c h q j) in
-          (k .0 .edges, lifts-each c h q j (k .0) .0 (k .1) .1);
-      lift-one = λ c h q p r o w.
-          let j = chain-path (v .is .T-is) (nodeImage F c) (o .image-is) (image-path (v .is) c p (o .path)) .0 in
-          equal-iff S (v .S-formed) c p r (o .path) (w .path) .0
-          (eq-eqb (classOf S (path c p)) (classOf S (path c r)) (oneClass-same S (lifts S T F c (path (nodeImage F c) q)) (lifts-one c h q j) (path c p) (path c r)
-          (lifts-each c h q j (path c p) .1 (refl, o)) (lifts-each c h q j (path c r) .1 (refl, w))));
+      lift = some-lift;
+      lift-one = one-lift;
       attribute = λ c h b i g.
-          let k = length-some (attributesOver S F c b) (attributes-one c h b i g) in
-          (k .0, attributesOver-each S T F c b (k .0) .0 (k .1));
+          let k = length-some (attributesOver (S .schema) F c b) (attributes-one c h b i g) in
+          (k .0, attributesOver-each (S .schema) (T .schema) F c b (k .0) .0 (k .1));
       attribute-one = λ c h b a k x y.
-          let i : b < length (T .attributes) = rw (x .image-is) at (v .is .attribute-in a (x .attribute-in)) in
-          let g : attributeAt T b .node ≡ nodeImage F c = rw (x .image-is, x .home-is) at (v .is .attribute-home a (x .attribute-in)) in
-          length-one (attributesOver S F c b) (attributes-one c h b i g) a k (attributesOver-each S T F c b a .1 x) (attributesOver-each S T F c b k .1 y);
+          let i : b < length (T .schema .attributes) = rw (x .image-is) at (v .is .attribute-in a (x .attribute-in)) in
+          let g : attributeAt (T .schema) b .node ≡ nodeImage F c = rw (x .image-is, x .home-is) at (v .is .attribute-home a (x .attribute-in)) in
+          length-one (attributesOver (S .schema) F c b) (attributes-one c h b i g) a k (attributesOver-each (S .schema) (T .schema) F c b a .1 x) (attributesOver-each (S .schema) (T .schema) F c b k .1 y);
     }
 
   -- the test decides evenness
-  pub even-iff : (even S T F ≡ true) ↔ Even (mappingOf S T F)
+  pub even-iff : (even S T F ≡ true) ↔ Even (mappingOf (S .schema) (T .schema) F)
   even-iff = (even-is, even-test)
 
   -- ---- what Sigma takes of an even mapping
 
-  module _ (E : Even (mappingOf S T F)) where
+  module _ (E : Even (mappingOf (S .schema) (T .schema) F)) where
     -- the path over an edge is a lift of it
-    pub lift-is : (c : ℕ) → c < S .graph .nodes → (e : ℕ) → IsPath (schemaOf T) (nodeImage F c) (e ∷ []) → (lift S T F c e .start ≡ c) × IsLift (mappingOf S T F) c (e ∷ []) (lift S T F c e .edges)
+    pub lift-is : (c : ℕ) → c < S .schema .graph .nodes → (e : ℕ) → IsPath (schemaOf (T .schema)) (nodeImage F c) (e ∷ []) → (lift S T F c e .start ≡ c) × IsLift (mappingOf (S .schema) (T .schema) F) c (e ∷ []) (lift S T F c e .edges)
     lift-is c h e j =
         let u = E .lift c h (e ∷ []) j in
-        lifts-each c h (e ∷ []) j (lift S T F c e) .0
-        (headOr-in (path c []) (lifts S T F c (path (nodeImage F c) (e ∷ []))) (lifts-each c h (e ∷ []) j (path c (u .0)) .1 (refl, u .1)))
+        let k = lifts-each c h (e ∷ []) j (lift S T F c e) .0 (headOr-in (path c []) (lifts S T F c (path (nodeImage F c) (e ∷ []))) (listed-lift c h (e ∷ []) j (u .0) (u .1) .1)) in
+        (k .1, k .2)
 
-    pub attributeOver-is : (c : ℕ) → c < S .graph .nodes → (b : ℕ) → b < length (T .attributes) → attributeAt T b .node ≡ nodeImage F c → IsAttributeOver (mappingOf S T F) c b (attributeOver S F c b)
+    pub attributeOver-is : (c : ℕ) → c < S .schema .graph .nodes → (b : ℕ) → b < length (T .schema .attributes) → attributeAt (T .schema) b .node ≡ nodeImage F c → IsAttributeOver (mappingOf (S .schema) (T .schema) F) c b (attributeOver (S .schema) F c b)
     attributeOver-is c h b i g =
         let u = E .attribute c h b i g in
-        attributesOver-each S T F c b (attributeOver S F c b) .0 (headOr-in 0 (attributesOver S F c b) (attributesOver-each S T F c b (u .0) .1 (u .1)))
+        attributesOver-each (S .schema) (T .schema) F c b (attributeOver (S .schema) F c b) .0 (headOr-in 0 (attributesOver (S .schema) F c b) (attributesOver-each (S .schema) (T .schema) F c b (u .0) .1 (u .1)))

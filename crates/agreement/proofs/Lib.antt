@@ -4,7 +4,9 @@ pub mod Loops
 pub mod Steps
 pub mod Distances
 pub mod FirstChains
+pub mod FirstPaths
 pub mod Classes
+pub mod Categories
 pub mod Ranges
 pub mod Instances
 pub mod Sheets

@@ -9,20 +9,19 @@ use lib.Seq.{take-at, getD-append-add, getD-drop}
 use lib.Dec.{leb}
 use borrow.Author.Tests.{leb-true}
 use Rattle.meaning.specs.Lists.{sumOf}
-use Rattle.meaning.specs.Schema.{Path, Schema}
 use Rattle.meaning.specs.PathChain.{firstChain}
-use Rattle.meaning.specs.PathEquality.{equal}
-use Rattle.meaning.specs.Formats.{Instance, maxRows, instanceSheet}
-use Rattle.meaning.specs.Judge.{judgePath, judgeSchema}
+use Rattle.meaning.specs.PathEquality.{firstPath}
+use Rattle.meaning.specs.Category.{listedCategory}
+use Rattle.meaning.specs.Formats.{Instance, maxRows, pathSheet, instanceSheet}
 use Rattle.meaning.specs.Delta.{delta}
 use Rattle.meaning.specs.Evenness.{even}
 use Rattle.meaning.specs.Sigma.{sigma}
 use Rattle.meaning.specs.Pi.{isBijective, hasFewComponents, pi}
-use Rattle.meaning.specs.Calls.{Outcome, refused, accepted, _>>=_, at, ensureFits, checkSchema, migration, checkMapping, checkInstance, samePath, explanation, pathChain, Migrated, deltaTables, sigmaTables, piTables, sheetOf, Sides, sides, judgePushed, judgeRaw, checkPushed, checkRaw, pushedToRaw, rawToPushed, Lent, written, inTray, pushedSheet, rawSheet}
+use Rattle.meaning.specs.Calls.{Outcome, refused, accepted, _>>=_, at, ensureFits, checkSchema, migration, checkMapping, checkInstance, pathQuestion, explanation, pathChain, Migrated, deltaTables, sigmaTables, piTables, sheetOf, Sides, sides, judgePushed, judgeRaw, checkPushed, checkRaw, pushedToRaw, rawToPushed, Lent, written, inTray, pushedSheet, rawSheet}
 use Rattle.agreement.specs.Tests.{Refusal, Tests, done, test, Decides, holds}
 use Rattle.agreement.proofs.Tests.{refused-not-accepted, accepted-same, decides-then, decides-ensure, decides-as, decides-giving}
 use Rattle.agreement.proofs.Refusals.{schema-decided, path-decided, mapping-decided, instance-decided, matching-decided}
-use Rattle.agreement.specs.CallTests.{Result, sheetTests, trayTests, rawTests, pushedTests, sidesTests, piTests, sigmaTests, deltaTests, fitsTests, pathChainTests, samePathTests, pathsTests, checkInstanceTests, checkMappingTests, migrationTests, checkSchemaTests}
+use Rattle.agreement.specs.CallTests.{Result, sheetTests, trayTests, rawTests, pushedTests, sidesTests, piTests, sigmaTests, deltaTests, fitsTests, pathChainTests, pathQuestionTests, checkInstanceTests, checkMappingTests, migrationTests, checkSchemaTests}
 
 -- ---- checks, the path question and the chain between two paths
 
@@ -33,7 +32,7 @@ migration-decided : (s t f : List ℕ) → Decides (migrationTests s t f) (migra
 migration-decided s t f =
     decides-then (schema-decided 1 s) (λ S.
     decides-then (schema-decided 2 t) (λ T.
-    decides-giving (mapping-decided 3 S T f) (λ F. record { S = S; T = T; F = F })))
+    decides-giving (mapping-decided 3 (listedCategory S) (listedCategory T) f) (λ F. record { S = S; T = T; F = F })))
 
 pub checkMapping-decided : (s t f : List ℕ) → Decides (checkMappingTests s t f) (checkMapping s t f)
 checkMapping-decided s t f = decides-giving (migration-decided s t f) (λ m. tt)
@@ -41,16 +40,14 @@ checkMapping-decided s t f = decides-giving (migration-decided s t f) (λ m. tt)
 pub checkInstance-decided : (s i : List ℕ) → Decides (checkInstanceTests s i) (checkInstance s i)
 checkInstance-decided s i = decides-then (schema-decided 1 s) (λ S. decides-giving (instance-decided 2 S i) (λ I. tt))
 
-module _ (s p q : List ℕ) where
-  paths-decided : {A : Type 0} (g : Schema → Path → Path → A)
-      → Decides (pathsTests s p q g) (at 1 (judgeSchema s) >>= λ S. at 2 (judgePath (S .graph) p) >>= λ P. at 3 (judgePath (S .graph) q) >>= λ Q. accepted (g S P Q))
-  paths-decided g = decides-then (schema-decided 1 s) (λ S. decides-then (path-decided 2 (S .graph) p) (λ P. decides-giving (path-decided 3 (S .graph) q) (g S P)))
+pub pathQuestion-decided : (s p : List ℕ) → Decides (pathQuestionTests s p) (pathQuestion s p)
+pathQuestion-decided s p = decides-then (schema-decided 1 s) (λ S. decides-giving (path-decided 2 (S .graph) p) (λ P. pathSheet (firstPath S P)))
 
-  pub samePath-decided : Decides (samePathTests s p q) (samePath s p q)
-  samePath-decided = paths-decided equal
-
-  pub pathChain-decided : Decides (pathChainTests s p q) (pathChain s p q)
-  pathChain-decided = paths-decided (λ S P Q. explanation (firstChain S P Q))
+pub pathChain-decided : (s p q : List ℕ) → Decides (pathChainTests s p q) (pathChain s p q)
+pathChain-decided s p q =
+    decides-then (schema-decided 1 s) (λ S.
+    decides-then (path-decided 2 (S .graph) p) (λ P.
+    decides-giving (path-decided 3 (S .graph) q) (λ Q. explanation (firstChain S P Q))))
 
 -- ---- migrations
 
@@ -67,16 +64,16 @@ pub sigma-decided : (s t f i : List ℕ) → Decides (sigmaTests s t f i) (sigma
 sigma-decided s t f i =
     decides-then (migration-decided s t f) (λ m.
     decides-then (instance-decided 4 (m .S) i) (λ I.
-    decides-then (decides-ensure (even (m .S) (m .T) (m .F)) 12) (λ _.
-    decides-giving (fits-decided (sigma (m .S) (m .T) (m .F) I)) (λ P. record { schema = m .T; tables = P }))))
+    decides-then (decides-ensure (even (listedCategory (m .S)) (listedCategory (m .T)) (m .F)) 12) (λ _.
+    decides-giving (fits-decided (sigma (listedCategory (m .S)) (listedCategory (m .T)) (m .F) I)) (λ P. record { schema = m .T; tables = P }))))
 
 pub pi-decided : (s t f i : List ℕ) → Decides (piTests s t f i) (piTables s t f i)
 pi-decided s t f i =
     decides-then (migration-decided s t f) (λ m.
     decides-then (instance-decided 4 (m .S) i) (λ I.
     decides-then (decides-ensure (isBijective (m .T) (m .F)) 13) (λ _.
-    decides-then (decides-ensure (hasFewComponents (m .S) (m .T) (m .F)) 14) (λ _.
-    decides-giving (fits-decided (pi (m .S) (m .T) (m .F) I)) (λ P. record { schema = m .T; tables = P })))))
+    decides-then (decides-ensure (hasFewComponents (listedCategory (m .S)) (listedCategory (m .T)) (m .F)) 14) (λ _.
+    decides-giving (fits-decided (pi (listedCategory (m .S)) (listedCategory (m .T)) (m .F) I)) (λ P. record { schema = m .T; tables = P })))))
 
 -- ---- checkers and turnings
 
@@ -85,8 +82,8 @@ sides-decided s t f i j =
     decides-then (migration-decided s t f) (λ m.
     decides-then (instance-decided 4 (m .S) i) (λ I.
     decides-then (instance-decided 5 (m .T) j) (λ J.
-    decides-then (decides-ensure (even (m .S) (m .T) (m .F)) 12) (λ _.
-    decides-then (fits-decided (sigma (m .S) (m .T) (m .F) I)) (λ P.
+    decides-then (decides-ensure (even (listedCategory (m .S)) (listedCategory (m .T)) (m .F)) 12) (λ _.
+    decides-then (fits-decided (sigma (listedCategory (m .S)) (listedCategory (m .T)) (m .F) I)) (λ P.
     decides-giving (fits-decided (delta (m .S) (m .F) J)) (λ D. record { m = m; run = I; book = J; pushed = P; pulled = D }))))))
 
 module _ (s t f i j k : List ℕ) where
@@ -140,6 +137,9 @@ module _ (tray : List ℕ) where
 
   pub pi-answer : (s t f i : List ℕ) → Decides (sheetTests tray (piTests s t f i)) (inTray tray (sheetOf (piTables s t f i)) .answer)
   pi-answer s t f i = sheet-decided (pi-decided s t f i)
+
+  pub pathQuestion-answer : (s p : List ℕ) → Decides (trayTests tray (pathQuestionTests s p)) (inTray tray (pathQuestion s p) .answer)
+  pathQuestion-answer s p = tray-decided (pathQuestion-decided s p)
 
   pub pathChain-answer : (s p q : List ℕ) → Decides (trayTests tray (pathChainTests s p q)) (inTray tray (pathChain s p q) .answer)
   pathChain-answer s p q = tray-decided (pathChain-decided s p q)

@@ -14,7 +14,8 @@ use Rattle.theory.proofs.Order.{mem-getD, mem-position, sorted-getD}
 use Rattle.theory.proofs.Family.{family-restrict}
 use Rattle.theory.proofs.Pi.{pi-is, pi-one}
 use Rattle.meaning.specs.Lists.{position, sameList, sumOf}
-use Rattle.meaning.specs.Schema.{Schema, source, target, attributeAt}
+use Rattle.meaning.specs.Schema.{source, target, attributeAt}
+use Rattle.meaning.specs.Category.{Category}
 use Rattle.meaning.specs.Formats.{Mapping, Instance, maxRows}
 use Rattle.meaning.specs.Views.{Shaped, schemaOf, attributeImage, mappingOf, count, link, column, value, instanceOf}
 use Rattle.meaning.specs.Pi.{Component, components, families, restrict, valueAt, pi}
@@ -27,64 +28,64 @@ use Rattle.agreement.proofs.Families.{familyOf, family-iff, rowsAt-fami
 use Rattle.agreement.proofs.Bijections.{attributeTo-image}
 
 -- the components as the theory has them
-abbrev pub piComponents : Schema → Schema → Mapping → ℕ → List (ℕ × List ℕ)
+abbrev pub piComponents : Category → Category → Mapping → ℕ → List (ℕ × List ℕ)
 piComponents S T F d = asPairs (components S T F d)
 
 -- row n of the table at d: its rows at the components, and the family that it stands for
-abbrev pub piRows : Schema → Schema → Mapping → Instance → ℕ → ℕ → List ℕ
+abbrev pub piRows : Category → Category → Mapping → Instance → ℕ → ℕ → List ℕ
 piRows S T F I d n = getD (families S T F I d) n []
 
-abbrev pub piRow : Schema → Schema → Mapping → Instance → ℕ → ℕ → ℕ → List ℕ → ℕ
+abbrev pub piRow : Category → Category → Mapping → Instance → ℕ → ℕ → ℕ → List ℕ → ℕ
 piRow S T F I d n = familyOf S T F d (piRows S T F I d n)
 
 -- ---- the tables, list by list
 
-module _ (S T : Schema) (F : Mapping) (I : Instance) where
+module _ (S T : Category) (F : Mapping) (I : Instance) where
   -- the place at the other end of e of the list l, restricted along e
   abbrev placeAlong : ℕ → List ℕ → ℕ
-  placeAlong e l = position (sameList (restrict S T F e l)) (families S T F I (target (T .graph) e))
+  placeAlong e l = position (sameList (restrict S T F e l)) (families S T F I (target (T .schema .graph) e))
 
-  pub pi-count : (d : ℕ) → d < T .graph .nodes → count (pi S T F I) d ≡ length (families S T F I d)
-  pi-count d h = map-upto-getD (λ d. length (families S T F I d)) (T .graph .nodes) 0 d h
+  pub pi-count : (d : ℕ) → d < T .schema .graph .nodes → count (pi S T F I) d ≡ length (families S T F I d)
+  pi-count d h = map-upto-getD (λ d. length (families S T F I d)) (T .schema .graph .nodes) 0 d h
 
-  pi-links : (e : ℕ) → e < length (T .graph .edges) → getD (pi S T F I .links) e [] ≡ map (placeAlong e) (families S T F I (source (T .graph) e))
-  pi-links e h = map-upto-getD (λ e. map (placeAlong e) (families S T F I (source (T .graph) e))) (length (T .graph .edges)) [] e h
+  pi-links : (e : ℕ) → e < length (T .schema .graph .edges) → getD (pi S T F I .links) e [] ≡ map (placeAlong e) (families S T F I (source (T .schema .graph) e))
+  pi-links e h = map-upto-getD (λ e. map (placeAlong e) (families S T F I (source (T .schema .graph) e))) (length (T .schema .graph .edges)) [] e h
 
-  pi-column : (b : ℕ) → b < length (T .attributes) → column (pi S T F I) b ≡ map (valueAt S T F I b) (families S T F I (attributeAt T b .node))
-  pi-column b h = map-upto-getD (λ b. map (valueAt S T F I b) (families S T F I (attributeAt T b .node))) (length (T .attributes)) [] b h
+  pi-column : (b : ℕ) → b < length (T .schema .attributes) → column (pi S T F I) b ≡ map (valueAt S T F I b) (families S T F I (attributeAt (T .schema) b .node))
+  pi-column b h = map-upto-getD (λ b. map (valueAt S T F I b) (families S T F I (attributeAt (T .schema) b .node))) (length (T .schema .attributes)) [] b h
 
   -- a restricted list, as the theory restricts its family
-  restrict-rows : (e : ℕ) (l : List ℕ) → restrict S T F e l ≡ rowsAt (piComponents S T F (target (T .graph) e)) (λ c g. familyOf S T F (source (T .graph) e) l c (e ∷ g))
-  restrict-rows e l = sym (map-map (λ k. familyOf S T F (source (T .graph) e) l (k .0) (e ∷ k .1)) asPair (components S T F (target (T .graph) e)))
+  restrict-rows : (e : ℕ) (l : List ℕ) → restrict S T F e l ≡ rowsAt (piComponents S T F (target (T .schema .graph) e)) (λ c g. familyOf S T F (source (T .schema .graph) e) l c (e ∷ g))
+  restrict-rows e l = sym (map-map (λ k. familyOf S T F (source (T .schema .graph) e) l (k .0) (e ∷ k .1)) asPair (components S T F (target (T .schema .graph) e)))
 
-module _ {S T : Schema} {F : Mapping} (v : ValidMapping S T F) (I : Instance) where
-  pub pi-shaped : Shaped T (pi S T F I)
+module _ {S T : Category} {F : Mapping} (v : ValidMapping S T F) (I : Instance) where
+  pub pi-shaped : Shaped (T .schema) (pi S T F I)
   pi-shaped = record {
-    tables = map-upto-length (λ d. length (families S T F I d)) (T .graph .nodes);
-    edges = map-upto-length (λ e. map (placeAlong S T F I e) (families S T F I (source (T .graph) e))) (length (T .graph .edges));
-    attributes = map-upto-length (λ b. map (valueAt S T F I b) (families S T F I (attributeAt T b .node))) (length (T .attributes));
+    tables = map-upto-length (λ d. length (families S T F I d)) (T .schema .graph .nodes);
+    edges = map-upto-length (λ e. map (placeAlong S T F I e) (families S T F I (source (T .schema .graph) e))) (length (T .schema .graph .edges));
+    attributes = map-upto-length (λ b. map (valueAt S T F I b) (families S T F I (attributeAt (T .schema) b .node))) (length (T .schema .attributes));
     links = λ e h.
-        let d = source (T .graph) e in
+        let d = source (T .schema .graph) e in
         ap length (pi-links S T F I e h) ∙ length-map (families S T F I d) (placeAlong S T F I e) ∙ sym (pi-count S T F I d (v .is .T-is .src-in e h));
     values = λ b h.
-        let d = attributeAt T b .node in
+        let d = attributeAt (T .schema) b .node in
         ap length (pi-column S T F I b h) ∙ length-map (families S T F I d) (valueAt S T F I b) ∙ sym (pi-count S T F I d (v .is .T-is .home-in b h));
   }
 
   -- a row's number is that of a list
-  on-list : (d : ℕ) → d < T .graph .nodes → (n : ℕ) → n < count (pi S T F I) d → n < length (families S T F I d)
+  on-list : (d : ℕ) → d < T .schema .graph .nodes → (n : ℕ) → n < count (pi S T F I) d → n < length (families S T F I d)
   on-list d h n k = rw (pi-count S T F I d h) at k
 
-  row-is : (d : ℕ) → d < T .graph .nodes → (n : ℕ) → n < count (pi S T F I) d
-      → (length (piRows S T F I d n) ≡ length (components S T F d)) × IsFamily (mappingOf S T F) (instanceOf I) d (piRow S T F I d n)
+  row-is : (d : ℕ) → d < T .schema .graph .nodes → (n : ℕ) → n < count (pi S T F I) d
+      → (length (piRows S T F I d n) ≡ length (components S T F d)) × IsFamily (mappingOf (S .schema) (T .schema) F) (instanceOf I) d (piRow S T F I d n)
   row-is d h n k = family-iff v I d h (piRows S T F I d n) .0 (mem-getD [] (families S T F I d) n (on-list d h n k))
 
   -- its rows at the components are the list
-  piRow-rows : (d : ℕ) → d < T .graph .nodes → (n : ℕ) → n < count (pi S T F I) d → rowsAt (piComponents S T F d) (piRow S T F I d n) ≡ piRows S T F I d n
+  piRow-rows : (d : ℕ) → d < T .schema .graph .nodes → (n : ℕ) → n < count (pi S T F I) d → rowsAt (piComponents S T F d) (piRow S T F I d n) ≡ piRows S T F I d n
   piRow-rows d h n k = rowsAt-familyOf v I d h (piRows S T F I d n) (row-is d h n k .0)
 
   -- without components there is exactly 1 row
-  pub pi-single : (d : ℕ) → d < T .graph .nodes → ((k : ℕ × List ℕ) → IsComponent (mappingOf S T F) d k → ⊥) → count (pi S T F I) d ≡ 1
+  pub pi-single : (d : ℕ) → d < T .schema .graph .nodes → ((k : ℕ × List ℕ) → IsComponent (mappingOf (S .schema) (T .schema) F) d k → ⊥) → count (pi S T F I) d ≡ 1
   pi-single d h none = pi-count S T F I d h ∙ ap length (families-none S T F I d (empty (components S T F d) (λ k m. none (asPair k) (components-are v d h .each (asPair k) .0 (Memᴰ·map asPair m)))))
     where
       empty : (ks : List Component) → ((k : Component) → List·Memᴰ k ks → ⊥) → ks ≡ []
@@ -92,17 +93,17 @@ module _ {S T : Schema} {F : Mapping} (v : ValidMapping S T F) (I : Instance) wh
       empty (k ∷ ks) f = absurd (f k (List·Memᴰ·head refl))
 
   -- the link of row n along e, which leads from d to b
-  module _ (e : ℕ) (h : e < length (T .graph .edges)) (n : ℕ) (k : n < count (pi S T F I) (source (T .graph) e)) where
+  module _ (e : ℕ) (h : e < length (T .schema .graph .edges)) (n : ℕ) (k : n < count (pi S T F I) (source (T .schema .graph) e)) where
     abbrev d : ℕ
-    d = source (T .graph) e
+    d = source (T .schema .graph) e
 
     abbrev b : ℕ
-    b = target (T .graph) e
+    b = target (T .schema .graph) e
 
-    d-in : d < T .graph .nodes
+    d-in : d < T .schema .graph .nodes
     d-in = v .is .T-is .src-in e h
 
-    b-in : b < T .graph .nodes
+    b-in : b < T .schema .graph .nodes
     b-in = v .is .T-is .tgt-in e h
 
     -- the row's family and its list, restricted along e
@@ -112,7 +113,7 @@ module _ {S T : Schema} {F : Mapping} (v : ValidMapping S T F) (I : Instance) wh
     abbrev alongRows : List ℕ
     alongRows = restrict S T F e (piRows S T F I d n)
 
-    along-is : IsFamily (mappingOf S T F) (instanceOf I) b along
+    along-is : IsFamily (mappingOf (S .schema) (T .schema) F) (instanceOf I) b along
     along-is = family-restrict (row-is d d-in n k .1) (e ∷ []) (path-edge (v .is .T-is) e h)
 
     along-rows : alongRows ≡ rowsAt (piComponents S T F b) along
@@ -132,22 +133,22 @@ module _ {S T : Schema} {F : Mapping} (v : ValidMapping S T F) (I : Instance) wh
         ap (piRows S T F I b) link-is
         ∙ sym (sameList-iff alongRows (piRows S T F I b (placeAlong S T F I e (piRows S T F I d n))) .0 (position-passes (sameList alongRows) (families S T F I b) [] found))
 
-    link-same : Same (mappingOf S T F) b (piRow S T F I b (link (pi S T F I) e n)) along
+    link-same : Same (mappingOf (S .schema) (T .schema) F) b (piRow S T F I b (link (pi S T F I) e n)) along
     link-same c g o = ap (λ (l : List ℕ). familyOf S T F b l c g) (link-rows ∙ along-rows) ∙ familyOf-rowsAt v I b b-in along-is c g o
 
-  module _ (paired : Bijective (mappingOf S T F)) where
-    value-is : (a : ℕ) → a < length (S .attributes) → (n : ℕ) → n < count (pi S T F I) (attributeAt T (attributeImage F a) .node)
-        → value (pi S T F I) (attributeImage F a) n ≡ value I a (piRow S T F I (attributeAt T (attributeImage F a) .node) n (attributeAt S a .node) [])
+  module _ (paired : Bijective (mappingOf (S .schema) (T .schema) F)) where
+    value-is : (a : ℕ) → a < length (S .schema .attributes) → (n : ℕ) → n < count (pi S T F I) (attributeAt (T .schema) (attributeImage F a) .node)
+        → value (pi S T F I) (attributeImage F a) n ≡ value I a (piRow S T F I (attributeAt (T .schema) (attributeImage F a) .node) n (attributeAt (S .schema) a .node) [])
     value-is a h n k =
         let b = attributeImage F a in
-        let d = attributeAt T b .node in
+        let d = attributeAt (T .schema) b .node in
         let i = v .is .attribute-in a h in
         ap (λ (l : List ℕ). getD l n 0) (pi-column S T F I b i)
         ∙ getD-map (valueAt S T F I b) (families S T F I d) [] 0 n (on-list d (v .is .T-is .home-in b i) n k)
-        ∙ ap (λ (y : ℕ). value I y (piRow S T F I d n (attributeAt S y .node) [])) (attributeTo-image v paired a h)
+        ∙ ap (λ (y : ℕ). value I y (piRow S T F I d n (attributeAt (S .schema) y .node) [])) (attributeTo-image v paired a h)
 
     -- the tables are the theory's Pi
-    pub pi-by : IsPiBy (mappingOf S T F) (instanceOf I) (instanceOf (pi S T F I)) (piComponents S T F) (piRow S T F I)
+    pub pi-by : IsPiBy (mappingOf (S .schema) (T .schema) F) (instanceOf I) (instanceOf (pi S T F I)) (piComponents S T F) (piRow S T F I)
     pi-by = record {
       components-are = λ d h. components-are v d h;
       family = λ d h n k. row-is d h n k .1;
@@ -162,22 +163,22 @@ module _ {S T : Schema} {F : Mapping} (v : ValidMapping S T F) (I : Instance) wh
       value = value-is;
     }
 
-    pub pi-is-pi : IsPi (mappingOf S T F) (instanceOf I) (instanceOf (pi S T F I))
+    pub pi-is-pi : IsPi (mappingOf (S .schema) (T .schema) F) (instanceOf I) (instanceOf (pi S T F I))
     pi-is-pi = record { components = piComponents S T F; row = piRow S T F I; by = pi-by }
 
     -- and no others are
-    pub pi-only : {P : theory.Instance ℕ} → IsPi (mappingOf S T F) (instanceOf I) P → Alike (schemaOf T) P (instanceOf (pi S T F I))
+    pub pi-only : {P : theory.Instance ℕ} → IsPi (mappingOf (S .schema) (T .schema) F) (instanceOf I) P → Alike (schemaOf (T .schema)) P (instanceOf (pi S T F I))
     pi-only P-is = pi-one (v .is) paired P-is pi-is-pi
 
     -- nor other tables
-    pub pi-tables : (J : Instance) → Shaped T J → IsPi (mappingOf S T F) (instanceOf I) (instanceOf J) → J ≡ pi S T F I
-    pi-tables J shaped J-is = alike-same T shaped pi-shaped (pi-only J-is)
+    pub pi-tables : (J : Instance) → Shaped (T .schema) J → IsPi (mappingOf (S .schema) (T .schema) F) (instanceOf I) (instanceOf J) → J ≡ pi S T F I
+    pi-tables J shaped J-is = alike-same (T .schema) shaped pi-shaped (pi-only J-is)
 
     -- Pi is an instance of T: links and values in range, and all path equations
-    pi-instance : {Range : ℕ → ℕ → Type 0} → IsInstance Range (schemaOf S) (instanceOf I) → IsInstance Range (schemaOf T) (instanceOf (pi S T F I))
+    pi-instance : {Range : ℕ → ℕ → Type 0} → IsInstance Range (schemaOf (S .schema)) (instanceOf I) → IsInstance Range (schemaOf (T .schema)) (instanceOf (pi S T F I))
     pi-instance I-is = pi-is (v .is) pi-by paired I-is
 
     -- where it has at most 512 rows
-    module _ (i : ValidInstance S I) (few : sumOf (pi S T F I .counts) ≤ maxRows) where
-      pub pi-valid : ValidInstance T (pi S T F I)
+    module _ (i : ValidInstance (S .schema) I) (few : sumOf (pi S T F I .counts) ≤ maxRows) where
+      pub pi-valid : ValidInstance (T .schema) (pi S T F I)
       pi-valid = record { shaped = pi-shaped; is = pi-instance (i .is); few-rows = few }

@@ -12,6 +12,7 @@ use borrow.Author.Tests.{leb-false, lt-leb}
 use Rattle.bits.specs.Field as bits
 use Rattle.meaning.specs.Lists.{sumOf}
 use Rattle.meaning.specs.Schema.{Graph, Schema, isPath, allPaths, hasLoop}
+use Rattle.meaning.specs.Category.{Category}
 use Rattle.meaning.specs.Sheet.{Read, fails, reads, Reader, after, _>>=_, give, times, inTurn, field, ensure, finish, Judged, faulty, sound, judged, onSheet}
 use Rattle.meaning.specs.Formats.{Counts, Mapping, Instance, maxPaths, maxRows, countsInLimits, readEdges, readPath, readCounts, readEdge, readAttribute, readEquation, readLists, readSchema, readMapping, readLinks, readValues, readTables, readInstance, kinds}
 use Rattle.meaning.specs.Judge as judge
@@ -232,17 +233,17 @@ images-finished S s p =
     after-after s (times (length (S .graph .edges)) readEdges s p) _ _ _ (λ es p.
     after-after s (times (length (S .attributes)) (field 4) s p) _ _ _ (λ as′ p. refl)))
 
-pub mapping-decided : (place : ℕ) (S T : Schema) (s : List ℕ) → Decides (mappingTests place S T s) (at place (judgeMapping S T s))
+pub mapping-decided : (place : ℕ) (S T : Category) (s : List ℕ) → Decides (mappingTests place S T s) (at place (judgeMapping S T s))
 mapping-decided place S T s =
-    decides-as (ap (λ (r : Read Mapping). at place (judge._>>=_ (judged r) tests)) (images-finished S s 0)) (
-    decides-read place (cuts-images S) s 0 finished tests (λ F q.
+    decides-as (ap (λ (r : Read Mapping). at place (judge._>>=_ (judged r) tests)) (images-finished (S .schema) s 0)) (
+    decides-read place (cuts-images (S .schema)) s 0 finished tests (λ F q.
     decides-reader place 2 (bits.tailOk s q) s q _ _ (
-    decides-judge place 7 (imagesFit S T F) _ (
+    decides-judge place 7 (imagesFit (S .schema) (T .schema) F) _ (
     decides-judge place 8 (keepsEquations S T F) _ (
     decides-sound place F)))))
   where
     tests : Mapping → Judged Mapping
-    tests F = judge._>>=_ (judge.ensure (imagesFit S T F) 7) (λ _. judge._>>=_ (judge.ensure (keepsEquations S T F) 8) (λ _. sound F))
+    tests F = judge._>>=_ (judge.ensure (imagesFit (S .schema) (T .schema) F) 7) (λ _. judge._>>=_ (judge.ensure (keepsEquations S T F) 8) (λ _. sound F))
 
 -- ---- instance
 cuts-links : (S : Schema) (counts : List ℕ) → Cuts (readLinks S counts)

@@ -5,6 +5,7 @@ use mathlib.Core.List.{List}
 use mathlib.Core.Logic.{_↔_}
 use Rattle.bits.specs.Field.{Bytes}
 use Rattle.meaning.specs.Schema.{Schema}
+use Rattle.meaning.specs.Category.{listedCategory}
 use Rattle.meaning.specs.Sheet.{sound}
 use Rattle.meaning.specs.Formats.{Mapping, Instance, instanceSheet}
 use Rattle.meaning.specs.Judge.{judgeSchema, judgeMapping, judgeInstance}
@@ -13,13 +14,14 @@ use Rattle.meaning.proofs.Facts.{schema-facts, mapping-facts, instance-facts}
 use Rattle.agreement.specs.Valid.{ValidInstance, ValidMapping}
 use Rattle.agreement.proofs.Instances.{instance-judged}
 use Rattle.agreement.proofs.Sheets.{instance-sheet-judged}
-use Rattle.agreement.proofs.Mappings.{schema-well-formed, mapping-judged}
+use Rattle.agreement.proofs.Categories.{schema-well-formed, listed-category}
+use Rattle.agreement.proofs.Mappings.{mapping-judged}
 
-pub mapping-valid : (s t f : List ℕ) {S T : Schema} {F : Mapping} → judgeSchema s ≡ sound S → judgeSchema t ≡ sound T → judgeMapping S T f ≡ sound F → ValidMapping S T F
+pub mapping-valid : (s t f : List ℕ) {S T : Schema} {F : Mapping} → judgeSchema s ≡ sound S → judgeSchema t ≡ sound T → judgeMapping (listedCategory S) (listedCategory T) f ≡ sound F → ValidMapping (listedCategory S) (listedCategory T) F
 mapping-valid s t f {S} {T} a b c =
-    let S-facts = schema-facts s a in
-    let T-facts = schema-facts t b in
-    record { S-formed = schema-well-formed S-facts; T-formed = schema-well-formed T-facts; attributes = mapping-facts S T f c .attributes; is = mapping-judged S T S-facts T-facts f c }
+    let S-is = listed-category S (schema-well-formed (schema-facts s a)) in
+    let T-is = listed-category T (schema-well-formed (schema-facts t b)) in
+    record { S-is = S-is; T-is = T-is; attributes = mapping-facts (listedCategory S) (listedCategory T) f c .attributes; is = mapping-judged S-is T-is f c }
 
 pub instance-valid : (S : Schema) (s : List ℕ) {I : Instance} → judgeInstance S s ≡ sound I → ValidInstance S I
 instance-valid S s e = let f = instance-facts S s e in record { shaped = f .shaped; is = instance-judged S s e; few-rows = f .few-rows }

@@ -1,26 +1,27 @@
 -- What it means that accepted schemas, the path question and migrated tables agree with source document 000, under the row order and the limits of
 -- document 01.
-use Prim.Native.Nat.{ℕ, _<_}
+use Prim.Native.Nat.{ℕ, _<_, _≤_}
 use mathlib.Core.Path.{_≡_}
 use mathlib.Core.Bool.{true, false}
-use mathlib.Core.List.{List}
+use mathlib.Core.List.{List, [], _++_, List·Memᴰ}
 use mathlib.Core.Logic.{_↔_}
-use lib.ListN.{length}
+use lib.ListN.{length, drop}
 use Rattle.theory.specs.Schema.{IsSchema, IsPath, Chain}
 use Rattle.theory.specs.Instance as theoryInstance
 use Rattle.theory.specs.Instance.{Alike, follow}
 use Rattle.theory.specs.Mapping as theoryMapping
 use Rattle.theory.specs.Mapping.{Even, Bijective}
 use Rattle.theory.specs.Sigma.{IsSigma}
-use Rattle.theory.specs.Pi.{IsComponents, IsPi}
+use Rattle.theory.specs.Pi.{Sorted, IsComponents, IsPi}
 use Rattle.meaning.specs.Schema.{Path, Schema, end, height}
-use Rattle.meaning.specs.PathEquality.{equal, classOf}
+use Rattle.meaning.specs.PathEquality.{classOf, firstPath}
+use Rattle.meaning.specs.Category.{equal, listedCategory}
 use Rattle.meaning.specs.Sheet.{sound}
-use Rattle.meaning.specs.Formats.{Mapping, Instance, maxComponents, maxRows, instanceSheet}
+use Rattle.meaning.specs.Formats.{Mapping, Instance, maxComponents, maxRows, pathSheet, instanceSheet}
 use Rattle.meaning.specs.Views.{schemaOf, mappingOf, instanceOf}
-use Rattle.meaning.specs.Judge.{judgeSchema, judgeMapping, judgeInstance}
-use Rattle.meaning.specs.Calls.{refused, accepted, samePath, Migrated, deltaTables, sigmaTables, piTables}
-use Rattle.agreement.specs.Paths.{IsHeight, EqualPaths, ListsPaths, pathAt, FirstEqual}
+use Rattle.meaning.specs.Judge.{judgePath, judgeSchema, judgeMapping, judgeInstance}
+use Rattle.meaning.specs.Calls.{refused, accepted, pathQuestion, pathChain, Migrated, deltaTables, sigmaTables, piTables, inTray}
+use Rattle.agreement.specs.Paths.{IsHeight, EqualPaths, Before, ListsPaths, FirstEqual}
 use Rattle.agreement.specs.Valid.{ValidInstance}
 
 -- ---- an accepted schema
@@ -30,18 +31,34 @@ pub record SchemaAgrees (S : Schema) : Type 0 where
   -- the list of all paths is complete and in the paper's order
   pub paths : ListsPaths S
   -- two paths are equal exactly when a chain of steps leads from one to the other; paths with other starts or ends are not
-  pub equality : (p q : Path) → IsPath (schemaOf S) (p .start) (p .edges) → IsPath (schemaOf S) (q .start) (q .edges) → (equal S p q ≡ true) ↔ EqualPaths S p q
+  pub equality : (p q : Path) → IsPath (schemaOf S) (p .start) (p .edges) → IsPath (schemaOf S) (q .start) (q .edges) → (equal (listedCategory S) p q ≡ true) ↔ EqualPaths S p q
   pub apart : (p q : Path) → IsPath (schemaOf S) (p .start) (p .edges) → IsPath (schemaOf S) (q .start) (q .edges)
-      → (p .start ≡ q .start → end (S .graph) p ≡ end (S .graph) q → ⊥) → equal S p q ≡ false
-  -- a class's number is that of its first path: a chain leads to it, and to no path before it
-  pub first : (p : Path) → IsPath (schemaOf S) (p .start) (p .edges) → FirstEqual S p (pathAt (S .graph) (classOf S p))
+      → (p .start ≡ q .start → end (S .graph) p ≡ end (S .graph) q → ⊥) → equal (listedCategory S) p q ≡ false
+  -- a path's class has the paths to which a chain leads from it, in order; the first of them is the theory's
+  pub class : (p : Path) → IsPath (schemaOf S) (p .start) (p .edges) → (q : Path) → List·Memᴰ q (classOf S p) ↔ EqualPaths S p q
+  pub class-in-order : (p : Path) → Sorted Before (classOf S p)
+  pub first : (p : Path) → IsPath (schemaOf S) (p .start) (p .edges) → FirstEqual S p (firstPath S p)
   -- heights obey the paper's sentence
   pub heights : IsHeight (S .graph) (height (S .graph))
 
--- the path question on accepted sheets: yes exactly for equal paths, else no
+-- the path question on accepted sheets: the sheet of a path to which a chain leads, and none that is equal stands before it
+pub record PathAnswer (s p : List ℕ) (S : Schema) (P : Path) : Type 0 where
+  pub first : Path
+  pub answer : pathQuestion s p ≡ accepted (pathSheet first)
+  pub is-path : IsPath (schemaOf S) (first .start) (first .edges)
+  pub equal : EqualPaths S P first
+  pub none-before : (q : Path) → EqualPaths S P q → Before q first → ⊥
+  pub read-back : judgePath (S .graph) (pathSheet first) ≡ sound first
+  -- asked again of its own answer, with a tray that holds it, the call gives it back byte for byte
+  pub again : (tray : List ℕ) → length (pathSheet first) ≤ length tray
+      → inTray tray (pathQuestion s (pathSheet first)) ≡ record { answer = accepted (length (pathSheet first)); tray = pathSheet first ++ drop (length (pathSheet first)) tray }
+
+-- two path questions of one schema: the answers are the same exactly for equal paths; paths with other starts or other ends have different ones; and they
+-- differ exactly where the question for a chain (C-11) is answered by none
 pub record PathAnswers (s p q : List ℕ) (S : Schema) (P Q : Path) : Type 0 where
-  pub yes : (samePath s p q ≡ accepted true) ↔ EqualPaths S P Q
-  pub no : (samePath s p q ≡ accepted false) ↔ (EqualPaths S P Q → ⊥)
+  pub same : (pathQuestion s p ≡ pathQuestion s q) ↔ EqualPaths S P Q
+  pub apart : (P .start ≡ Q .start → end (S .graph) P ≡ end (S .graph) Q → ⊥) → pathQuestion s p ≡ pathQuestion s q → ⊥
+  pub none : (pathChain s p q ≡ accepted []) ↔ (pathQuestion s p ≡ pathQuestion s q → ⊥)
 
 -- ---- migrated tables: what the theory says they are, valid, and read back from their own sheets
 
@@ -56,7 +73,7 @@ pub record Lendable (S : Schema) (I : Instance) : Type 0 where
 pub record Inputs (s t f i : List ℕ) (S T R : Schema) (F : Mapping) (I : Instance) : Type 0 where
   pub S-accepted : judgeSchema s ≡ sound S
   pub T-accepted : judgeSchema t ≡ sound T
-  pub F-accepted : judgeMapping S T f ≡ sound F
+  pub F-accepted : judgeMapping (listedCategory S) (listedCategory T) f ≡ sound F
   pub I-accepted : judgeInstance R i ≡ sound I
 
 pub record DeltaAgrees (s t f j : List ℕ) (M : Migrated) : Type 0 where

@@ -7,10 +7,10 @@ use mathlib.Core.List.{List, [], _∷_, _++_}
 use lib.ListN.{length, getD, take}
 use lib.Dec.{leb}
 use Rattle.meaning.specs.Lists.{sumOf}
-use Rattle.meaning.specs.Schema.{Path, Schema}
+use Rattle.meaning.specs.Category.{listedCategory}
 use Rattle.meaning.specs.PathChain.{firstChain}
-use Rattle.meaning.specs.PathEquality.{equal}
-use Rattle.meaning.specs.Formats.{Instance, maxRows, instanceSheet}
+use Rattle.meaning.specs.PathEquality.{firstPath}
+use Rattle.meaning.specs.Formats.{Instance, maxRows, pathSheet, instanceSheet}
 use Rattle.meaning.specs.Delta.{delta}
 use Rattle.meaning.specs.Evenness.{even}
 use Rattle.meaning.specs.Sigma.{sigma}
@@ -31,7 +31,7 @@ abbrev pub migrationTests : List ℕ → List ℕ → List ℕ → Tests Migrati
 migrationTests s t f =
     then (schemaTests 1 s) (λ S.
     then (schemaTests 2 t) (λ T.
-    giving (mappingTests 3 S T f) (λ F. record { S = S; T = T; F = F })))
+    giving (mappingTests 3 (listedCategory S) (listedCategory T) f) (λ F. record { S = S; T = T; F = F })))
 
 abbrev pub checkMappingTests : List ℕ → List ℕ → List ℕ → Tests (Unit {0}) migrationRefusals
 checkMappingTests s t f = giving (migrationTests s t f) (λ m. tt)
@@ -40,17 +40,19 @@ abbrev pub checkInstanceTests : List ℕ → List ℕ → Tests (Unit {0}) (plac
 checkInstanceTests s i = then (schemaTests 1 s) (λ S. giving (instanceTests 2 S i) (λ I. tt))
 
 abbrev pub pathRefusals : List Refusal
-pathRefusals = placed 1 schemaNumbers ++ placed 2 pathNumbers ++ placed 3 pathNumbers
+pathRefusals = placed 1 schemaNumbers ++ placed 2 pathNumbers
 
--- what is made of a schema and two of its paths
-abbrev pub pathsTests : {A : Type 0} → List ℕ → List ℕ → List ℕ → (Schema → Path → Path → A) → Tests A pathRefusals
-pathsTests s p q g = then (schemaTests 1 s) (λ S. then (pathTests 2 (S .graph) p) (λ P. giving (pathTests 3 (S .graph) q) (g S P)))
+abbrev pub pathQuestionTests : List ℕ → List ℕ → Tests (List ℕ) pathRefusals
+pathQuestionTests s p = then (schemaTests 1 s) (λ S. giving (pathTests 2 (S .graph) p) (λ P. pathSheet (firstPath S P)))
 
-abbrev pub samePathTests : List ℕ → List ℕ → List ℕ → Tests Bool pathRefusals
-samePathTests s p q = pathsTests s p q equal
+abbrev pub chainRefusals : List Refusal
+chainRefusals = placed 1 schemaNumbers ++ placed 2 pathNumbers ++ placed 3 pathNumbers
 
-abbrev pub pathChainTests : List ℕ → List ℕ → List ℕ → Tests (List ℕ) pathRefusals
-pathChainTests s p q = pathsTests s p q (λ S P Q. explanation (firstChain S P Q))
+abbrev pub pathChainTests : List ℕ → List ℕ → List ℕ → Tests (List ℕ) chainRefusals
+pathChainTests s p q =
+    then (schemaTests 1 s) (λ S.
+    then (pathTests 2 (S .graph) p) (λ P.
+    giving (pathTests 3 (S .graph) q) (λ Q. explanation (firstChain S P Q))))
 
 -- ---- migrations
 
@@ -77,8 +79,8 @@ abbrev pub sigmaTests : List ℕ → List ℕ → List ℕ → List ℕ → Test
 sigmaTests s t f i =
     then (migrationTests s t f) (λ m.
     then (instanceTests 4 (m .S) i) (λ I.
-    then (together 12 (even (m .S) (m .T) (m .F))) (λ _.
-    giving (fitsTests (sigma (m .S) (m .T) (m .F) I)) (λ P. record { schema = m .T; tables = P }))))
+    then (together 12 (even (listedCategory (m .S)) (listedCategory (m .T)) (m .F))) (λ _.
+    giving (fitsTests (sigma (listedCategory (m .S)) (listedCategory (m .T)) (m .F) I)) (λ P. record { schema = m .T; tables = P }))))
 
 abbrev pub piRefusals : List Refusal
 piRefusals = migrationRefusals ++ placed 4 instanceNumbers ++ (13, 0) ∷ (14, 0) ∷ (15, 0) ∷ []
@@ -88,8 +90,8 @@ piTests s t f i =
     then (migrationTests s t f) (λ m.
     then (instanceTests 4 (m .S) i) (λ I.
     then (together 13 (isBijective (m .T) (m .F))) (λ _.
-    then (together 14 (hasFewComponents (m .S) (m .T) (m .F))) (λ _.
-    giving (fitsTests (pi (m .S) (m .T) (m .F) I)) (λ P. record { schema = m .T; tables = P })))))
+    then (together 14 (hasFewComponents (listedCategory (m .S)) (listedCategory (m .T)) (m .F))) (λ _.
+    giving (fitsTests (pi (listedCategory (m .S)) (listedCategory (m .T)) (m .F) I)) (λ P. record { schema = m .T; tables = P })))))
 
 -- ---- checkers and turnings
 
@@ -101,8 +103,8 @@ sidesTests s t f i j =
     then (migrationTests s t f) (λ m.
     then (instanceTests 4 (m .S) i) (λ I.
     then (instanceTests 5 (m .T) j) (λ J.
-    then (together 12 (even (m .S) (m .T) (m .F))) (λ _.
-    then (fitsTests (sigma (m .S) (m .T) (m .F) I)) (λ P.
+    then (together 12 (even (listedCategory (m .S)) (listedCategory (m .T)) (m .F))) (λ _.
+    then (fitsTests (sigma (listedCategory (m .S)) (listedCategory (m .T)) (m .F) I)) (λ P.
     giving (fitsTests (delta (m .S) (m .F) J)) (λ D. record { m = m; run = I; book = J; pushed = P; pulled = D }))))))
 
 abbrev pub matchingRefusals : List Refusal

@@ -13,6 +13,7 @@ use Rattle.theory.specs.Mapping as theoryMapping
 use Rattle.theory.specs.Sigma.{IsSigma, place}
 use Rattle.theory.specs.Matching.{IsMatching}
 use Rattle.meaning.specs.Schema.{Schema}
+use Rattle.meaning.specs.Category.{listedCategory}
 use Rattle.meaning.specs.Sheet.{sound}
 use Rattle.meaning.specs.Formats.{Mapping, Instance, maxRows, matchingSheet}
 use Rattle.meaning.specs.Views.{schemaOf, mappingOf, instanceOf}
@@ -73,7 +74,7 @@ pub record Provided (s t f i j : List ℕ) : Type 0 where
   pub pushed : theoryInstance.Instance ℕ
   pub S-accepted : judgeSchema s ≡ sound S
   pub T-accepted : judgeSchema t ≡ sound T
-  pub F-accepted : judgeMapping S T f ≡ sound F
+  pub F-accepted : judgeMapping (listedCategory S) (listedCategory T) f ≡ sound F
   pub F-even : theoryMapping.Even (mappingOf S T F)
   pub run-accepted : judgeInstance S i ≡ sound run
   pub book-accepted : judgeInstance T j ≡ sound book

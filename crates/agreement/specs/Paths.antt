@@ -8,8 +8,9 @@ use lib.ListN.{length, getD}
 use Rattle.theory.specs.Schema as theory
 use Rattle.theory.specs.Schema.{IsPath, endpoint, Chain, Lex, IsFirst}
 use Rattle.theory.specs.Pi.{Sorted}
-use Rattle.meaning.specs.Schema.{Path, path, Equation, Graph, Schema, source, target, allPaths, hasLoop}
-use Rattle.meaning.specs.PathEquality.{pathNumber}
+use Rattle.meaning.specs.Lists.{position}
+use Rattle.meaning.specs.Schema.{Path, path, identical, Equation, Graph, Schema, source, target, allPaths, hasLoop}
+use Rattle.meaning.specs.PathEquality.{firstPath}
 use Rattle.meaning.specs.Sheet.{sound, onSheet}
 use Rattle.meaning.specs.Formats.{readSchema, maxPaths}
 use Rattle.meaning.specs.Views.{schemaOf}
@@ -68,10 +69,14 @@ abbrev pub pathCount : Graph → ℕ
 pathCount G = length (allPaths G)
 
 abbrev pub numberOf : Graph → Path → ℕ
-numberOf G p = pathNumber (allPaths G) p
+numberOf G p = position (identical p) (allPaths G)
 
 abbrev pub pathAt : Graph → ℕ → Path
 pathAt G i = getD (allPaths G) i (path 0 [])
+
+-- the number of a class is that of its first path
+abbrev pub classNumber : Schema → Path → ℕ
+classNumber S p = numberOf (S .graph) (firstPath S p)
 
 -- g is the first of the paths that equal p
 pub record FirstEqual (S : Schema) (p g : Path) : Type 0 where

@@ -10,6 +10,7 @@ use Rattle.meaning.specs.Lists.{sumOf}
 use Rattle.meaning.specs.Schema.{Path, Graph, Schema, isPath, hasLoop}
 use Rattle.meaning.specs.Sheet.{Read, fails, reads, Reader, _>>=_, give, times, field}
 use Rattle.meaning.specs.Formats.{Mapping, Instance, maxRows, countsInLimits, readEdges, readPath, readCounts, readLists, readLinks, readValues, kinds}
+use Rattle.meaning.specs.Category.{Category}
 use Rattle.meaning.specs.Judge.{isWellFormed, hasFewPaths, imagesFit, keepsEquations, linksInRange, valuesInRange, obeysEquations}
 use Rattle.meaning.specs.Matching.{isMatching}
 use Rattle.agreement.specs.Tests.{Refusal, Tests, done, test, holds}
@@ -64,11 +65,11 @@ readImages S = do
   as′ ← times (length (S .attributes)) (field 4)
   give (record { nodes = ns; edges = es; attributes = as′ })
 
-abbrev pub mappingTests : (place : ℕ) → Schema → Schema → List ℕ → Tests Mapping (placed place mappingNumbers)
+abbrev pub mappingTests : (place : ℕ) → Category → Category → List ℕ → Tests Mapping (placed place mappingNumbers)
 mappingTests place S T s =
-    test (1, place) (whatRead (readImages S s 0)) (λ F.
+    test (1, place) (whatRead (readImages (S .schema) s 0)) (λ F.
     test (2, place) (holds (bits.tailOk s (F .1))) (λ _.
-    test (7, place) (holds (imagesFit S T (F .0))) (λ _.
+    test (7, place) (holds (imagesFit (S .schema) (T .schema) (F .0))) (λ _.
     test (8, place) (holds (keepsEquations S T (F .0))) (λ _.
     done (F .0)))))
 

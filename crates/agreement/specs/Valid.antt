@@ -12,20 +12,21 @@ use Rattle.theory.specs.Mapping as theoryMapping
 use Rattle.theory.specs.Mapping.{IsMapping, image}
 use Rattle.meaning.specs.Lists.{sumOf}
 use Rattle.meaning.specs.Schema.{Schema}
+use Rattle.meaning.specs.Category.{Category}
 use Rattle.meaning.specs.Sheet.{sound, onSheet}
 use Rattle.meaning.specs.Formats.{Mapping, Instance, readInstance, maxRows, fromTo, Kinds, kinds}
 use Rattle.meaning.specs.Views.{Shaped, schemaOf, mappingOf, instanceOf}
-use Rattle.agreement.specs.Paths.{WellFormed}
+use Rattle.agreement.specs.Categories.{IsCategory}
 
 -- v is a value of kind k, by the list ks of kinds: not below its smallest, and not above its largest
 abbrev pub InRange : Kinds → ℕ → ℕ → Type 0
 InRange ks k v = (getD ks k (fromTo 0 0) .smallest ≤ v) × (v ≤ getD ks k (fromTo 0 0) .largest)
 
-pub record ValidMapping (S T : Schema) (F : Mapping) : Type 0 where
-  pub S-formed : WellFormed S
-  pub T-formed : WellFormed T
-  pub attributes : length (F .attributes) ≡ length (S .attributes)
-  pub is : IsMapping (mappingOf S T F)
+pub record ValidMapping (S T : Category) (F : Mapping) : Type 0 where
+  pub S-is : IsCategory S
+  pub T-is : IsCategory T
+  pub attributes : length (F .attributes) ≡ length (S .schema .attributes)
+  pub is : IsMapping (mappingOf (S .schema) (T .schema) F)
 
 pub record ValidInstance (S : Schema) (I : Instance) : Type 0 where
   pub shaped : Shaped S I

@@ -5,11 +5,11 @@ use migration::exports::migration_check_pushed;
 use migration::exports::migration_check_raw;
 use migration::exports::migration_check_schema;
 use migration::exports::migration_delta;
+use migration::exports::migration_first_path;
 use migration::exports::migration_path_chain;
 use migration::exports::migration_pi;
 use migration::exports::migration_pushed_to_raw;
 use migration::exports::migration_raw_to_pushed;
-use migration::exports::migration_same_path;
 use migration::exports::migration_sigma;
 
 // The calls that write into the tray.
@@ -23,6 +23,9 @@ fn written<'a>(
     k: &'a [u8],
     tray: &mut [u8],
 ) -> u64 {
+    if call == 3 {
+        return migration_first_path(s, t, &mut *tray);
+    }
     if call == 4 {
         return migration_delta(s, t, f, i, &mut *tray);
     }
@@ -59,9 +62,6 @@ pub(crate) fn answer<'a>(
     }
     if call == 2 {
         return migration_check_instance(s, t);
-    }
-    if call == 3 {
-        return migration_same_path(s, t, f);
     }
     if call == 7 {
         return migration_check_pushed(s, t, f, i, j, k);

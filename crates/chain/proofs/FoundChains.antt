@@ -11,18 +11,19 @@ use borrow.Author.Tests.{lt-ltb}
 use Rattle.theory.specs.Schema.{IsPath}
 use Rattle.meaning.specs.Schema as meaning
 use Rattle.meaning.specs.PathChain.{firstChain}
-use Rattle.meaning.specs.PathEquality.{equal}
+use Rattle.meaning.specs.Category.{equal}
 use Rattle.meaning.specs.Views as views
 use Rattle.meaning.proofs.Lists.{no-bool}
 use Rattle.meaning.proofs.StepNumbers.{stepOf}
 use Rattle.agreement.specs.Paths.{WellFormed, pathAt}
 use Rattle.agreement.specs.PathChains.{IsDistance}
-use Rattle.agreement.proofs.Paths.{path-iff, allPaths-each, number-path}
-use Rattle.agreement.proofs.Classes.{equal-paths-iff}
+use Rattle.agreement.proofs.Paths.{path-iff}
+use Rattle.agreement.proofs.Categories.{equal-paths-iff, listed-category}
 use Rattle.agreement.proofs.Distances.{distance-chain, no-chain}
+use Rattle.agreement.proofs.Classes.{equal-classes}
 use Rattle.schema.specs.declared.Path.{Path}
 use Rattle.schema.specs.declared.Schema.{Schema}
-use Rattle.schema.specs.Decoded.{frontOf, pathOf, graphOf, schemaOf}
+use Rattle.schema.specs.Decoded.{frontOf, pathOf, graphOf, schemaOf, categoryOf}
 use Rattle.schema.specs.Judged.{Sound, SoundPath}
 use Rattle.paths.specs.declared.Paths.{Paths}
 use Rattle.paths.specs.PathWalks.{walkFrom, WalkIn}
@@ -60,23 +61,25 @@ module _ (t : Schema) (p : Paths) (sound : Sound t) (paths : IsPaths (schemaOf t
     number-low = omega (arith, numbered .below, paths .table .counted, paths .table .few)
 
     path-at : pathAt (S .graph) x ≡ pathOf w
-    path-at = ap (pathAt (S .graph)) (numbered .number) ∙ number-path (S .graph) (allPaths-each S well (pathOf w) .1 (is-path (is .path)))
+    path-at = numbered .is
 
   module _ {a b : Path} {x y : ℕ} (first : NumberOf a x) (second : NumberOf b y) where
-    same-test : eqb (getD (p .class) x 0) (getD (p .class) y 0) ≡ equal S (pathOf a) (pathOf b)
-    same-test = ap₂ eqb (path-class t p sound (paths .table) (paths .class) (first .path) (first .walked)) (path-class t p sound (paths .table) (paths .class) (second .path) (second .walked))
+    same-test : eqb (getD (p .class) x 0) (getD (p .class) y 0) ≡ equal (categoryOf t) (pathOf a) (pathOf b)
+    same-test =
+        ap₂ eqb (path-class t p sound (paths .table) (paths .class) (first .path) (first .walked)) (path-class t p sound (paths .table) (paths .class) (second .path) (second .walked))
+        ∙ sym (equal-classes S (pathOf a) (pathOf b))
 
     pub linked : eqb (getD (p .class) x 0) (getD (p .class) y 0) ≡ true → Linked S x y
     linked e = record {
       x-in = numbered first .below;
       y-in = numbered second .below;
-      equal = rw (path-at first, path-at second) (equal-paths-iff S well (pathOf a) (pathOf b) (is-path (first .path)) (is-path (second .path)) .0 (sym same-test ∙ e));
+      equal = rw (path-at first, path-at second) (equal-paths-iff (listed-category S well) (pathOf a) (pathOf b) (is-path (first .path)) (is-path (second .path)) .0 (sym same-test ∙ e));
     }
 
     pub none-found : eqb (getD (p .class) x 0) (getD (p .class) y 0) ≡ false → none ≡ firstChain S (pathOf a) (pathOf b)
     none-found e =
         sym (no-chain S well (pathOf a) (pathOf b) (λ h.
-        no-bool (sym (equal-paths-iff S well (pathOf a) (pathOf b) (is-path (first .path)) (is-path (second .path)) .1 h) ∙ sym same-test ∙ e)))
+        no-bool (sym (equal-paths-iff (listed-category S well) (pathOf a) (pathOf b) (is-path (first .path)) (is-path (second .path)) .1 h) ∙ sym same-test ∙ e)))
 
     pub chain-found : {l : List ℕ} (steps : List ℕ) {n : ℕ} → n ≡ getD l x 0 → Reaches S x y l → Descended S l x n steps → chainOf n steps ≡ firstChain S (pathOf a) (pathOf b)
     chain-found {l} steps {n} away r d =

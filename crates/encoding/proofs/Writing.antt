@@ -1,5 +1,5 @@
 -- Laws of writing: fields of one width one by one, columns one by one, and whole sheets.
-use Prim.Native.Nat.{ℕ, zero, suc, _+_, _*_}
+use Prim.Native.Nat.{ℕ, zero, suc, _+_, _*_, _<_}
 use mathlib.Core.Path.{_≡_, refl, sym, ap, ap₂, _∙_}
 use mathlib.Core.List.{List, [], _∷_, _++_, map, map-append, append-nil}
 use native.Mathlib.Omega.{arith}
@@ -14,7 +14,8 @@ use Rattle.bits.proofs.Packing.{length-pack, totalWidth-append, putAll-pack}
 use Rattle.theory.specs.Numbering.{tabulate}
 use Rattle.theory.proofs.Numbering.{tabulate-length}
 use Rattle.meaning.specs.Lists.{concatMap}
-use Rattle.meaning.specs.Formats.{fieldsOf, instanceSheet, matchingSheet, chainSheet}
+use Rattle.meaning.specs.Schema.{path}
+use Rattle.meaning.specs.Formats.{fieldsOf, pathSheet, instanceSheet, matchingSheet, chainSheet}
 use Rattle.meaning.proofs.Tabulate.{tabulate-more, tabulate-same}
 use Rattle.meaning.proofs.PathLevels.{concatMap-append}
 use Rattle.meaning.proofs.StepNumbers.{stepOf, chain-packed}
@@ -143,6 +144,23 @@ module _ (l : List ℕ) (n : ℕ) where
 
   pub matching-written : (tray : List ℕ) {m : ℕ} {a b : List ℕ} → m ≡ bytesFor (9 * n) → a ≡ replicate m 0 ++ drop m tray → b ≡ putAll a 0 (fieldsOf 9 (columnOf l 0 n)) → Written (matchingSheet (frontOf n l)) tray m b
   matching-written tray {m} {a} {b} e ea eb = rw front-same (packed (fieldsOf 9 (columnOf l 0 n)) tray b (e ∙ ap bytesFor (sym partners-width)) (eb ∙ rw ea))
+
+-- ---- a path's sheet: start and length, then the edges, which stand as a column
+module _ (start n : ℕ) (edges l : List ℕ) (column : (i : ℕ) → i < n → getD l i 0 ≡ getD edges i 0) where
+  abbrev pathFields : List (ℕ × ℕ)
+  pathFields = (4, start) ∷ (4, n) ∷ fieldsOf 5 (columnOf l 0 n)
+
+  path-is : pathSheet (path start (frontOf n edges)) ≡ pack pathFields
+  path-is =
+      ap (λ (x : List ℕ). pathSheet (path start x)) (sym (tabulate-same n column) ∙ front-same l n)
+      ∙ ap (λ (k : ℕ). pack ((4, start) ∷ (4, k) ∷ fieldsOf 5 (columnOf l 0 n))) (tabulate-length n (λ r. getD l (0 + r) 0))
+
+  pub path-written : (tray : List ℕ) {m : ℕ} {a b d : List ℕ} → m ≡ bytesFor (8 + 5 * n) → a ≡ replicate m 0 ++ drop m tray → b ≡ putAll a 0 (fieldsOf 4 (start ∷ n ∷ []))
+      → d ≡ putAll b 8 (fieldsOf 5 (columnOf l 0 n)) → Written (pathSheet (path start (frontOf n edges))) tray m d
+  unfolding putAll totalWidth
+  path-written tray {m} {a} {b} {d} e ea eb ed =
+      let w : totalWidth pathFields ≡ 8 + 5 * n = let h = fields-width 5 n (λ r. getD l (0 + r) 0) in omega arith in
+      rw path-is (packed pathFields tray d (e ∙ ap bytesFor (sym w)) (ed ∙ rw (eb, ea)))
 
 -- ---- a chain's sheet: the number of steps, and each step as one number
 module _ (l : List ℕ) (n : ℕ) where

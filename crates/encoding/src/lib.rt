@@ -1,6 +1,7 @@
-// How an instance is written into a lent tray, field after field; and matching and chain sheets.
+// How an instance is written into a lent tray, field after field; and matching, path and chain sheets.
 pub mod chains;
 pub mod matching;
+pub mod paths;
 
 use instance::Instance;
 use instance::decode::rows_of;

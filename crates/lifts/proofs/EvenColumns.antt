@@ -12,6 +12,7 @@ use Rattle.meaning.specs.Formats as formats
 use Rattle.meaning.specs.Views.{nodeImage}
 use Rattle.meaning.specs.Evenness.{attributesAt, attributesOver, evenAt, even}
 use Rattle.meaning.proofs.Tabulate.{all-upto-same}
+use Rattle.meaning.specs.Category.{listedCategory}
 use Rattle.schema.specs.declared.Schema.{Schema}
 use Rattle.schema.specs.Decoded.{schemaOf}
 use Rattle.paths.specs.declared.Paths.{Paths}
@@ -46,8 +47,8 @@ module _ (s t : Schema) (f : Mapping) where
       (λ b k. rw (attribute-is t b k, node-at s f c l, attributes-over s f c b)))
 
   pub even-by : {source-paths target-paths : Paths} {over : List ℕ} → Schemas s t source-paths target-paths → Sound s t f → Filled 256 (imageClass S T F) (source-paths .count) over →
-      even S T F ≡ (all (evenPathsAt source-paths target-paths over (f .node)) (upto (s .graph .nodes)) && all (evenColumnsAt s t f) (upto (s .graph .nodes)))
+      even (listedCategory S) (listedCategory T) F ≡ (all (evenPathsAt source-paths target-paths over (f .node)) (upto (s .graph .nodes)) && all (evenColumnsAt s t f) (upto (s .graph .nodes)))
   even-by {source-paths} {target-paths} {over} h k o =
-      all-upto-same (evenAt S T F) (λ c. evenPathsAt source-paths target-paths over (f .node) c && evenColumnsAt s t f c) (s .graph .nodes)
+      all-upto-same (evenAt (listedCategory S) (listedCategory T) F) (λ c. evenPathsAt source-paths target-paths over (f .node) c && evenColumnsAt s t f c) (s .graph .nodes)
       (λ c l. rw (even-paths h k o c l, even-columns c l))
       ∙ all-both (evenPathsAt source-paths target-paths over (f .node)) (evenColumnsAt s t f) (upto (s .graph .nodes))

@@ -10,17 +10,18 @@ use lib.Dec.{eqb}
 use Rattle.meaning.specs.Lists.{upto, all}
 use Rattle.meaning.specs.Schema as meaning
 use Rattle.meaning.specs.Schema.{Path, pathsFrom}
-use Rattle.meaning.specs.PathEquality.{classOf, equal}
+use Rattle.meaning.specs.Category.{equal, Category}
 use Rattle.meaning.specs.Formats as formats
 use Rattle.meaning.specs.Views.{nodeImage, pathImage}
 use Rattle.meaning.specs.Evenness.{lifts, oneClass}
 use Rattle.meaning.proofs.Tabulate.{and-both}
 use Rattle.meaning.proofs.Lists.{no-bool, and-intro, both-ways, filter-in, filter-of, all-in, all-of, all-upto, upto-all}
-use Rattle.agreement.specs.Paths.{pathAt}
+use Rattle.agreement.specs.Paths.{pathAt, classNumber, numberOf}
 use Rattle.agreement.proofs.Paths.{pathsFrom-each}
 use Rattle.agreement.proofs.Evenness.{oneClass-some, oneClass-same, same-oneClass}
+use Rattle.agreement.proofs.Classes.{same-first, equal-classes}
 use Rattle.schema.specs.declared.Schema.{Schema}
-use Rattle.schema.specs.Decoded.{schemaOf}
+use Rattle.schema.specs.Decoded.{schemaOf, categoryOf}
 use Rattle.paths.specs.declared.Paths.{Paths}
 use Rattle.paths.specs.Table.{Filled}
 use Rattle.paths.proofs.TablePaths.{formed, class-at, class-low, from-table, numbered}
@@ -54,6 +55,13 @@ module _ {s t : Schema} {source-paths target-paths : Paths} {f : Mapping} (h : S
   abbrev T : meaning.Schema
   T = schemaOf t
 
+  -- the categories that they present
+  abbrev C : Category
+  C = categoryOf s
+
+  abbrev D : Category
+  D = categoryOf t
+
   abbrev F : formats.Mapping
   F = mappingOf s f
 
@@ -66,11 +74,11 @@ module _ {s t : Schema} {source-paths target-paths : Paths} {f : Mapping} (h : S
       omega (arith, o .each i l, c .is, class-low (h .target) (h .target-paths) (imageNumber S T F i) (c .low))
 
   -- a path of S lies over a path of T where their classes are one
-  over-in : (c : ℕ) (q p : Path) → List·Memᴰ p (pathsFrom (S .graph) c) → classOf T (pathImage F p) ≡ classOf T q → List·Memᴰ p (lifts S T F c q)
-  over-in c q p i e = filter-in (λ x. equal T (pathImage F x) q) (pathsFrom (S .graph) c) i (eq-eqb (classOf T (pathImage F p)) (classOf T q) e)
+  over-in : (c : ℕ) (q p : Path) → List·Memᴰ p (pathsFrom (S .graph) c) → classNumber T (pathImage F p) ≡ classNumber T q → List·Memᴰ p (lifts C D F c q)
+  over-in c q p i e = filter-in (λ x. equal D (pathImage F x) q) (pathsFrom (S .graph) c) i (equal-classes T (pathImage F p) q ∙ eq-eqb (classNumber T (pathImage F p)) (classNumber T q) e)
 
-  over-of : (c : ℕ) (q p : Path) → List·Memᴰ p (lifts S T F c q) → List·Memᴰ p (pathsFrom (S .graph) c) × (classOf T (pathImage F p) ≡ classOf T q)
-  over-of c q p i = let u = filter-of (λ x. equal T (pathImage F x) q) (pathsFrom (S .graph) c) i in (u .0, eqb-true (classOf T (pathImage F p)) (classOf T q) (u .1))
+  over-of : (c : ℕ) (q p : Path) → List·Memᴰ p (lifts C D F c q) → List·Memᴰ p (pathsFrom (S .graph) c) × (classNumber T (pathImage F p) ≡ classNumber T q)
+  over-of c q p i = let u = filter-of (λ x. equal D (pathImage F x) q) (pathsFrom (S .graph) c) i in (u .0, eqb-true (classNumber T (pathImage F p)) (classNumber T q) (sym (equal-classes T (pathImage F p) q) ∙ u .1))
 
   module _ (c : ℕ) (l : c < s .graph .nodes) where
     abbrev d : ℕ
@@ -93,17 +101,17 @@ module _ {s t : Schema} {source-paths target-paths : Paths} {f : Mapping} (h : S
 
     -- ---- from the arrays
     module _ (a : all unique (upto (source-paths .count)) ≡ true) (e : all hasLift (upto (target-paths .count)) ≡ true) where
-      unique-class : (p : Path) → List·Memᴰ p (pathsFrom (S .graph) c) → classOf S p ≡ getD classesOver (classOf T (pathImage F p)) 0
+      unique-class : (p : Path) → List·Memᴰ p (pathsFrom (S .graph) c) → classNumber S p ≡ getD classesOver (classNumber T (pathImage F p)) 0
       unique-class p i =
           let n = numbered (h .source) (h .source-paths) c l p i in
           let x = n .number in
           let u : getD classesOver (getD over x 0) 0 ≡ getD (source-paths .class) x 0 =
           eqb-true (getD classesOver (getD over x 0) 0) (getD (source-paths .class) x 0)
           (subst (λ (b : Bool). cond b (eqb (getD classesOver (getD over x 0) 0) (getD (source-paths .class) x 0)) true ≡ true) (eq-eqb (getD (source-paths .start) x 0) c (n .starts)) (upto-all unique (source-paths .count) a x (n .below))) in
-          subst (λ (w : Path). classOf S w ≡ getD classesOver (classOf T (pathImage F w)) 0) (n .is)
+          subst (λ (w : Path). classNumber S w ≡ getD classesOver (classNumber T (pathImage F w)) 0) (n .is)
           (sym (class-at (h .source) (h .source-paths) x (n .below)) ∙ sym u ∙ ap (λ (y : ℕ). getD classesOver y 0) (o .each x (n .below)))
 
-      some-lift : (q : Path) → List·Memᴰ q (pathsFrom (T .graph) d) → (p : Path) × List·Memᴰ p (lifts S T F c q)
+      some-lift : (q : Path) → List·Memᴰ q (pathsFrom (T .graph) d) → (p : Path) × List·Memᴰ p (lifts C D F c q)
       some-lift q i =
           let n = numbered (h .target) (h .target-paths) d d-in q i in
           let y = n .number in
@@ -114,17 +122,17 @@ module _ {s t : Schema} {source-paths target-paths : Paths} {f : Mapping} (h : S
           let x = v .number in (
             pathAt (S .graph) x,
             over-in c q (pathAt (S .graph) x) (from-table (h .source) (h .source-paths) c x l (v .below) (v .starts))
-                (sym (o .each x (v .below)) ∙ v .lies ∙ class-at (h .target) (h .target-paths) y (n .below) ∙ ap (classOf T) (n .is)),
+                (sym (o .each x (v .below)) ∙ v .lies ∙ class-at (h .target) (h .target-paths) y (n .below) ∙ ap (classNumber T) (n .is)),
           )
 
-      one-lift : (q : Path) → List·Memᴰ q (pathsFrom (T .graph) d) → oneClass S (lifts S T F c q) ≡ true
-      one-lift q i = same-oneClass S (lifts S T F c q) (some-lift q i .1) (λ p r x y.
+      one-lift : (q : Path) → List·Memᴰ q (pathsFrom (T .graph) d) → oneClass C (lifts C D F c q) ≡ true
+      one-lift q i = same-oneClass C (lifts C D F c q) (some-lift q i .1) (λ p r x y.
           let u = over-of c q p x in
           let v = over-of c q r y in
-          unique-class p (u .0) ∙ ap (λ (z : ℕ). getD classesOver z 0) (u .1 ∙ sym (v .1)) ∙ sym (unique-class r (v .0)))
+          same-first S p r (unique-class p (u .0) ∙ ap (λ (z : ℕ). getD classesOver z 0) (u .1 ∙ sym (v .1)) ∙ sym (unique-class r (v .0))))
 
     -- ---- to the arrays
-    module _ (e : all (λ q. oneClass S (lifts S T F c q)) (pathsFrom (T .graph) d) ≡ true) where
+    module _ (e : all (λ q. oneClass C (lifts C D F c q)) (pathsFrom (T .graph) d) ≡ true) where
       image-from : (x : ℕ) → x < source-paths .count → getD (source-paths .start) x 0 ≡ c → List·Memᴰ (pathImage F (pathAt (S .graph) x)) (pathsFrom (T .graph) d)
       image-from x b z =
           let p = pathAt (S .graph) x in
@@ -137,26 +145,26 @@ module _ {s t : Schema} {source-paths target-paths : Paths} {f : Mapping} (h : S
           let q = pathImage F (pathAt (S .graph) x) in
           let v = lifts-some (source-paths .start) (source-paths .class) over c (source-paths .count) (getD over x 0) (over-low x b) (every x b st) in
           let y = v .number in
-          let one = all-of (λ (q : Path). oneClass S (lifts S T F c q)) (pathsFrom (T .graph) d) e (image-from x b st) in
-          let same = oneClass-same S (lifts S T F c q) one (pathAt (S .graph) y) (pathAt (S .graph) x)
+          let one = all-of (λ (q : Path). oneClass C (lifts C D F c q)) (pathsFrom (T .graph) d) e (image-from x b st) in
+          let same = oneClass-same C (lifts C D F c q) one (pathAt (S .graph) y) (pathAt (S .graph) x)
           (over-in c q (pathAt (S .graph) y) (from-table (h .source) (h .source-paths) c y l (v .below) (v .starts)) (sym (o .each y (v .below)) ∙ v .lies ∙ o .each x b))
           (over-in c q (pathAt (S .graph) x) (from-table (h .source) (h .source-paths) c x l b st) refl) in
           eq-eqb (getD classesOver (getD over x 0) 0) (getD (source-paths .class) x 0)
-          (sym (v .has) ∙ class-at (h .source) (h .source-paths) y (v .below) ∙ same ∙ sym (class-at (h .source) (h .source-paths) x b)))
+          (sym (v .has) ∙ class-at (h .source) (h .source-paths) y (v .below) ∙ ap (numberOf (S .graph)) same ∙ sym (class-at (h .source) (h .source-paths) x b)))
 
       each-has-lift : (y : ℕ) → y < target-paths .count → hasLift y ≡ true
       each-has-lift y b = cond-is (eqb (getD (target-paths .start) y 0) (getD (f .node) c 0)) (not (eqb (getD classesOver (getD (target-paths .class) y 0) 0) 256)) (λ z.
           let st : getD (target-paths .start) y 0 ≡ d = eqb-true (getD (target-paths .start) y 0) (getD (f .node) c 0) z ∙ sym (node-at s f c l) in
           let q = pathAt (T .graph) y in
-          let p = oneClass-some S (lifts S T F c q) (all-of (λ (q : Path). oneClass S (lifts S T F c q)) (pathsFrom (T .graph) d) e (from-table (h .target) (h .target-paths) d y d-in b st)) in
+          let p = oneClass-some C (lifts C D F c q) (all-of (λ (q : Path). oneClass C (lifts C D F c q)) (pathsFrom (T .graph) d) e (from-table (h .target) (h .target-paths) d y d-in b st)) in
           let u = over-of c q (p .0) (p .1) in
           let n = numbered (h .source) (h .source-paths) c l (p .0) (u .0) in
           let x = n .number in
-          let lies-over : getD over x 0 ≡ getD (target-paths .class) y 0 = o .each x (n .below) ∙ ap (λ (w : Path). classOf T (pathImage F w)) (n .is) ∙ u .1 ∙ sym (class-at (h .target) (h .target-paths) y b) in
+          let lies-over : getD over x 0 ≡ getD (target-paths .class) y 0 = o .each x (n .below) ∙ ap (λ (w : Path). classNumber T (pathImage F w)) (n .is) ∙ u .1 ∙ sym (class-at (h .target) (h .target-paths) y b) in
           not-is (eqb (getD classesOver (getD (target-paths .class) y 0) 0) 256) (λ r.
           every x (n .below) (n .starts) (ap (λ (w : ℕ). getD classesOver w 0) lies-over ∙ eqb-true (getD classesOver (getD (target-paths .class) y 0) 0) 256 r)))
 
-    pub even-paths : evenPathsAt source-paths target-paths over (f .node) c ≡ all (λ q. oneClass S (lifts S T F c q)) (pathsFrom (T .graph) d)
-    even-paths = both-ways (all unique (upto (source-paths .count)) && all hasLift (upto (target-paths .count))) (all (λ q. oneClass S (lifts S T F c q)) (pathsFrom (T .graph) d))
-        (λ e. let u = and-both (all unique (upto (source-paths .count))) (all hasLift (upto (target-paths .count))) e in all-in (λ (q : Path). oneClass S (lifts S T F c q)) (pathsFrom (T .graph) d) (λ q i. one-lift (u .0) (u .1) q i))
+    pub even-paths : evenPathsAt source-paths target-paths over (f .node) c ≡ all (λ q. oneClass C (lifts C D F c q)) (pathsFrom (T .graph) d)
+    even-paths = both-ways (all unique (upto (source-paths .count)) && all hasLift (upto (target-paths .count))) (all (λ q. oneClass C (lifts C D F c q)) (pathsFrom (T .graph) d))
+        (λ e. let u = and-both (all unique (upto (source-paths .count))) (all hasLift (upto (target-paths .count))) e in all-in (λ (q : Path). oneClass C (lifts C D F c q)) (pathsFrom (T .graph) d) (λ q i. one-lift (u .0) (u .1) q i))
         (λ e. and-intro (all-upto unique (source-paths .count) (each-unique e)) (all-upto hasLift (target-paths .count) (each-has-lift e)))

@@ -9,16 +9,17 @@ use lib.Dec.{eqb}
 use Rattle.meaning.specs.Lists.{upto, filter, headOr}
 use Rattle.meaning.specs.Schema as meaning
 use Rattle.meaning.specs.Schema.{Path, path, source, end, allPaths}
-use Rattle.meaning.specs.PathEquality.{classOf, equal}
+use Rattle.meaning.specs.Category.{equal, Category}
 use Rattle.meaning.specs.Formats as formats
 use Rattle.meaning.specs.Views.{nodeImage, pathImage}
 use Rattle.meaning.specs.Evenness.{lifts}
 use Rattle.meaning.specs.Sigma.{lift}
 use Rattle.meaning.proofs.Lists.{filter-of, filter-place, of-upto}
-use Rattle.agreement.specs.Paths.{pathCount, numberOf, pathAt}
+use Rattle.agreement.specs.Paths.{pathCount, numberOf, pathAt, classNumber}
 use Rattle.agreement.proofs.Paths.{number-at}
+use Rattle.agreement.proofs.Classes.{equal-classes}
 use Rattle.schema.specs.declared.Schema.{Schema}
-use Rattle.schema.specs.Decoded.{graphOf, schemaOf}
+use Rattle.schema.specs.Decoded.{graphOf, schemaOf, categoryOf}
 use Rattle.schema.proofs.GraphEdges.{edges-count, source-at}
 use Rattle.paths.specs.declared.Paths.{Paths}
 use Rattle.paths.specs.Table.{Filled}
@@ -55,6 +56,13 @@ module _ {s t : Schema} {source-paths target-paths : Paths} {f : Mapping} (h : S
   abbrev T : meaning.Schema
   T = schemaOf t
 
+  -- the categories that they present
+  abbrev C : Category
+  C = categoryOf s
+
+  abbrev D : Category
+  D = categoryOf t
+
   abbrev F : formats.Mapping
   F = mappingOf s f
 
@@ -65,14 +73,14 @@ module _ {s t : Schema} {source-paths target-paths : Paths} {f : Mapping} (h : S
   H = graphOf (t .graph)
 
   -- the lifts of q at c, by their numbers
-  lifts-are : (q : Path) → lifts S T F c q ≡ map (pathAt G) (filter (isOver (source-paths .start) over c (classOf T q)) (upto (source-paths .count)))
+  lifts-are : (q : Path) → lifts C D F c q ≡ map (pathAt G) (filter (isOver (source-paths .start) over c (classNumber T q)) (upto (source-paths .count)))
   lifts-are q =
-      ap (filter (λ p. equal T (pathImage F p) q)) (paths-from S (formed (h .source)) c l)
-      ∙ filter-filter (λ p. eqb (p .start) c) (λ p. equal T (pathImage F p) q) (allPaths G)
-      ∙ filter-place (allPaths G) (path 0 []) (λ p. eqb (p .start) c && equal T (pathImage F p) q)
-      ∙ ap (λ (n : ℕ). map (pathAt G) (filter (λ i. eqb (pathAt G i .start) c && equal T (pathImage F (pathAt G i)) q) (upto n))) (sym (h .source-paths .table .counted))
-      ∙ ap (map (pathAt G)) (filter-same (λ i. eqb (pathAt G i .start) c && equal T (pathImage F (pathAt G i)) q) (isOver (source-paths .start) over c (classOf T q)) (upto (source-paths .count))
-      (λ i w. let b = of-upto (source-paths .count) w in rw (h .source-paths .table .columns .start .each i b, o .each i b)))
+      ap (filter (λ p. equal D (pathImage F p) q)) (paths-from S (formed (h .source)) c l)
+      ∙ filter-filter (λ p. eqb (p .start) c) (λ p. equal D (pathImage F p) q) (allPaths G)
+      ∙ filter-place (allPaths G) (path 0 []) (λ p. eqb (p .start) c && equal D (pathImage F p) q)
+      ∙ ap (λ (n : ℕ). map (pathAt G) (filter (λ i. eqb (pathAt G i .start) c && equal D (pathImage F (pathAt G i)) q) (upto n))) (sym (h .source-paths .table .counted))
+      ∙ ap (map (pathAt G)) (filter-same (λ i. eqb (pathAt G i .start) c && equal D (pathImage F (pathAt G i)) q) (isOver (source-paths .start) over c (classNumber T q)) (upto (source-paths .count))
+      (λ i w. let b = of-upto (source-paths .count) w in ap (λ (x : Bool). eqb (pathAt G i .start) c && x) (equal-classes T (pathImage F (pathAt G i)) q) ∙ rw (h .source-paths .table .columns .start .each i b, o .each i b)))
 
   passed : Imageable s t source-paths target-paths f
   passed = record { schemas = h; short = k .short; fits = k .fits }
@@ -86,7 +94,7 @@ module _ {s t : Schema} {source-paths target-paths : Paths} {f : Mapping} (h : S
       pub node-low : getD (f .node) c 0 < 257
       pub edge-low : e < 32
       pub number-low : number < 256
-      pub class : classOf T (path (nodeImage F c) (e ∷ [])) ≡ getD (target-paths .class) number 0
+      pub class : classNumber T (path (nodeImage F c) (e ∷ [])) ≡ getD (target-paths .class) number 0
 
     pub edge-path : EdgePath
     edge-path =
@@ -108,7 +116,7 @@ module _ {s t : Schema} {source-paths target-paths : Paths} {f : Mapping} (h : S
           node-low = omega arith;
           edge-low = omega arith;
           number-low = omega arith;
-          class = sym (class-at (h .target) (h .target-paths) number g ∙ ap (classOf T) (ap (pathAt H) y ∙ w .1 ∙ ap (λ (p : Path). path (p .start) (p .edges ++ (e ∷ []))) x ∙ ap (λ (p : ℕ). path p (e ∷ [])) (sym n)));
+          class = sym (class-at (h .target) (h .target-paths) number g ∙ ap (classNumber T) (ap (pathAt H) y ∙ w .1 ∙ ap (λ (p : Path). path (p .start) (p .edges ++ (e ∷ []))) x ∙ ap (λ (p : ℕ). path p (e ∷ [])) (sym n)));
         }
 
     -- the lift of e at c is what `first_over` finds
@@ -117,7 +125,7 @@ module _ {s t : Schema} {source-paths target-paths : Paths} {f : Mapping} (h : S
         let r : ℕ = headOr c (filter (isOver (source-paths .start) over c (getD (target-paths .class) number 0)) (upto (source-paths .count))) in
         let u = h .source-paths .table .counted in
         let i : r < source-paths .count = headOr-below (source-paths .count) (source-paths .count) c (isOver (source-paths .start) over c (getD (target-paths .class) number 0)) (omega arith) (omega (arith, trivial-count G (h .source .acyclic))) in
-        let p : pathAt G r ≡ lift S T F c e = sym (
+        let p : pathAt G r ≡ lift C D F c e = sym (
         ap (headOr (path c [])) (lifts-are (path (nodeImage F c) (e ∷ [])))
         ∙ ap (λ (x : ℕ). headOr (path c []) (map (pathAt G) (filter (isOver (source-paths .start) over c x) (upto (source-paths .count))))) (edge-path .class)
         ∙ ap (λ (x : Path). headOr x (map (pathAt G) (filter (isOver (source-paths .start) over c (getD (target-paths .class) number 0)) (upto (source-paths .count))))) (sym (trivial-at G (h .source .acyclic) c l))

@@ -6,10 +6,9 @@ use lib.ListN.{getD, set, replicate, length}
 use lib.Dec.{eqb}
 use Rattle.meaning.specs.Lists.{upto, filter, all}
 use Rattle.meaning.specs.Schema as meaning
-use Rattle.meaning.specs.PathEquality.{classOf}
 use Rattle.meaning.specs.Formats as formats
 use Rattle.meaning.specs.Views.{pathImage}
-use Rattle.agreement.specs.Paths.{pathAt}
+use Rattle.agreement.specs.Paths.{pathAt, classNumber}
 use Rattle.schema.specs.declared.Schema.{Schema}
 use Rattle.paths.specs.declared.Paths.{Paths}
 use Rattle.mapping.specs.declared.Mapping.{Mapping}
@@ -18,7 +17,7 @@ use Rattle.mapping.specs.declared.Mapping.{Mapping}
 
 -- the class of the image of path i
 abbrev pub imageClass : meaning.Schema → meaning.Schema → formats.Mapping → ℕ → ℕ
-imageClass S T F i = classOf T (pathImage F (pathAt (S .graph) i))
+imageClass S T F i = classNumber T (pathImage F (pathAt (S .graph) i))
 
 -- for each class of T the class of a path over it, the last of the first k paths that starts at c; 256 where there is none
 abbrev pub liftClasses : List ℕ → List ℕ → List ℕ → ℕ → ℕ → List ℕ

@@ -8,7 +8,7 @@ use lib.Dec.{eqb}
 use Rattle.meaning.specs.Sigma.{lift}
 use Rattle.agreement.specs.Paths.{numberOf, pathAt}
 use Rattle.schema.specs.declared.Schema.{Schema}
-use Rattle.schema.specs.Decoded.{graphOf, schemaOf}
+use Rattle.schema.specs.Decoded.{graphOf, categoryOf}
 use Rattle.paths.specs.declared.Paths.{Paths}
 use Rattle.mapping.specs.declared.Mapping.{Mapping}
 use Rattle.mapping.specs.Decoded.{mappingOf}
@@ -16,8 +16,8 @@ use Rattle.mapping.specs.Decoded.{mappingOf}
 -- r is the number of the lift of e at c
 pub record IsLift (s t : Schema) (source-paths : Paths) (f : Mapping) (c e r : ℕ) : Type 0 where
   pub below : r < source-paths .count
-  pub path : pathAt (graphOf (s .graph)) r ≡ lift (schemaOf s) (schemaOf t) (mappingOf s f) c e
-  pub number : r ≡ numberOf (graphOf (s .graph)) (lift (schemaOf s) (schemaOf t) (mappingOf s f) c e)
+  pub path : pathAt (graphOf (s .graph)) r ≡ lift (categoryOf s) (categoryOf t) (mappingOf s f) c e
+  pub number : r ≡ numberOf (graphOf (s .graph)) (lift (categoryOf s) (categoryOf t) (mappingOf s f) c e)
 
 -- of edge e and node c at 16 * e + c, in the first n places
 pub record EdgeLifts (s t : Schema) (source-paths : Paths) (f : Mapping) (n : ℕ) (l : List ℕ) : Type 0 where

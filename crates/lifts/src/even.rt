@@ -10,7 +10,7 @@ ghost use Prim.Native.Nat.{_≤_, _<_};
 ghost use lib.ListN.{length};
 ghost use Rattle.meaning.specs.Lists.{upto, filter, all};
 ghost use Rattle.meaning.specs.Evenness.{even};
-ghost use Rattle.schema.specs.Decoded.{schemaOf};
+ghost use Rattle.schema.specs.Decoded.{schemaOf, categoryOf};
 ghost use Rattle.paths.specs.Table.{Filled};
 ghost use Rattle.mapping.specs.Decoded.{mappingOf};
 ghost use Rattle.mapping.specs.Judged.{Schemas, Imageable, Sound};
@@ -258,7 +258,7 @@ fn attributes_even(s: Schema, t: Schema, f: Mapping) -> bool
 
 pub fn is_even(s: Schema, t: Schema, source_paths: Paths, target_paths: Paths, f: Mapping) -> bool
     requires { ⌜ Schemas s t «source_paths» «target_paths» × Sound s t f ⌝ }
-    ensures { λ r. ⌜ r ≡ even (schemaOf s) (schemaOf t) (mappingOf s f) ⌝ }
+    ensures { λ r. ⌜ r ≡ even (categoryOf s) (categoryOf t) (mappingOf s f) ⌝ }
 {
     let over = image_classes(s, t, source_paths, target_paths, f);
     if paths_even(s.graph.nodes, source_paths, target_paths, &over, &f.node) {

@@ -1,12 +1,11 @@
 -- The table of images, path by path.
 use Prim.Native.Nat.{ℕ, _<_, _≤_}
-use mathlib.Core.Path.{_≡_, sym, _∙_}
+use mathlib.Core.Path.{_≡_, sym, _∙_, ap}
 use mathlib.Core.List.{List}
 use native.Mathlib.Omega.{arith}
 use lib.ListN.{getD}
-use Rattle.meaning.specs.PathEquality.{classOf}
 use Rattle.meaning.specs.Views.{pathImage}
-use Rattle.agreement.specs.Paths.{pathAt}
+use Rattle.agreement.specs.Paths.{pathAt, classNumber}
 use Rattle.agreement.proofs.Mappings.{Fits}
 use Rattle.schema.specs.declared.Schema.{Schema}
 use Rattle.schema.specs.Decoded.{graphOf, schemaOf}
@@ -21,7 +20,7 @@ use Rattle.mapping.specs.declared.Mapping.{Mapping}
 use Rattle.mapping.specs.Decoded.{imageOf, noImage, mappingOf}
 use Rattle.mapping.specs.Judged.{Imageable, imageNumber}
 use Rattle.mapping.proofs.Viewing.{node-at, edge-at}
-use Rattle.mapping.proofs.Imaging.{fits, image-trivial, image-next, image-below}
+use Rattle.mapping.proofs.Imaging.{image-at, fits, image-trivial, image-next, image-below}
 
 -- ---- numbers of images by arrays: that of a trivial path is its node's, and that of a longer one follows from that of its parent
 pub record Numbered (nodes count : ℕ) (parents lasts first rank node : List ℕ) (edge : List Image) (number : ℕ → ℕ) : Type 0 where
@@ -77,11 +76,11 @@ module _ {s t : Schema} {source-paths target-paths : Paths} {f : Mapping} (h : I
   -- the class of a path's image stands in the table of T's paths
   pub record ImageClass (i : ℕ) : Type 0 where
     pub low : number i < target-paths .count
-    pub is : getD (target-paths .class) (number i) 0 ≡ classOf (schemaOf t) (pathImage (mappingOf s f) (pathAt (graphOf (s .graph)) i))
+    pub is : getD (target-paths .class) (number i) 0 ≡ classNumber (schemaOf t) (pathImage (mappingOf s f) (pathAt (graphOf (s .graph)) i))
 
   pub image-class : (i : ℕ) → i < source-paths .count → ImageClass i
   image-class i l =
       let e = h .schemas .source-paths .table .counted in
       let g = h .schemas .target-paths .table .counted in
       let low : number i < target-paths .count = omega (arith, image-below (formed (h .schemas .source)) (formed (h .schemas .target)) images i (omega arith)) in
-      record { low = low; is = h .schemas .target-paths .class .each (number i) low }
+      record { low = low; is = h .schemas .target-paths .class .each (number i) low ∙ ap (classNumber (schemaOf t)) (image-at (formed (h .schemas .source)) (formed (h .schemas .target)) images i (omega arith)) }

@@ -43,10 +43,10 @@ module _ (s : declared.Schema) (T : Schema) (f : declaredMapping.Mapping) where
 module _ {S T : Schema} {F : Mapping} (formed : WellFormed S) (target-formed : WellFormed T) (f : Fits S T F) where
   -- a path's image is a path, and ends at the image of its end
   pub image-path : (n : ℕ) (p : List ℕ) → IsPath (schemaOf S) n p → IsPath (schemaOf T) (nodeImage F n) (image (edgeImage F) p)
-  image-path = carried-path (carries formed target-formed f)
+  image-path = carried-path (carries (formed .fits) (target-formed .fits) f)
 
   image-end : (n : ℕ) (p : List ℕ) → IsPath (schemaOf S) n p → endpoint (target (T .graph)) (nodeImage F n) (image (edgeImage F) p) ≡ nodeImage F (endpoint (target (S .graph)) n p)
-  image-end = carried-end (carries formed target-formed f)
+  image-end = carried-end (carries (formed .fits) (target-formed .fits) f)
 
   path-is : (i : ℕ) → i < pathCount (S .graph) → IsPath (schemaOf S) (pathAt (S .graph) i .start) (pathAt (S .graph) i .edges)
   path-is i h = allPaths-each S formed (pathAt (S .graph) i) .0 (pathAt-in (S .graph) i h)

@@ -8,3 +8,4 @@ pub mod Sides
 pub mod Judging
 pub mod Counting
 pub mod PathEdges
+pub mod FirstEdges

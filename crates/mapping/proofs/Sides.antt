@@ -13,14 +13,16 @@ use Rattle.theory.proofs.Numbering.{tabulate-length, tabulate-getD}
 use Rattle.meaning.specs.Lists.{all}
 use Rattle.meaning.specs.Schema as meaning
 use Rattle.meaning.specs.Schema.{Equation, source, target, joins}
-use Rattle.meaning.specs.PathEquality.{classes, classOf, equal}
+use Rattle.meaning.specs.Category.{equal}
 use Rattle.meaning.specs.Judge.{keepsEquations}
 use Rattle.meaning.specs.Views.{edgeImage, pathImage}
 use Rattle.meaning.proofs.Tabulate.{and-both, all-same}
 use Rattle.agreement.proofs.Paths.{path-iff}
+use Rattle.agreement.specs.Paths.{classNumber}
+use Rattle.agreement.proofs.Classes.{equal-classes}
 use Rattle.schema.specs.declared.Path.{Path}
 use Rattle.schema.specs.declared.Schema.{Schema}
-use Rattle.schema.specs.Decoded.{graphOf, pathOf, equationOf, noPath, schemaOf}
+use Rattle.schema.specs.Decoded.{graphOf, pathOf, equationOf, noPath, schemaOf, categoryOf}
 use Rattle.schema.specs.Judged.{Sound, SoundPath}
 use Rattle.schema.proofs.GraphEdges.{edges-count}
 use Rattle.schema.proofs.SoundSchema.{sides-at}
@@ -69,7 +71,7 @@ module _ {s t : Schema} {first rank class : List ℕ} {f : Mapping} (h : Testabl
   pub record Side (p : Path) : Type 0 where
     pub walkable : Walkable first rank (f .node) (f .edge) p
     pub low : walkFrom first rank (getD (f .node) (p .start) 0) (joinedImages (f .edge) (pathOf p .edges)) < 256
-    pub is : getD class (walkFrom first rank (getD (f .node) (p .start) 0) (joinedImages (f .edge) (pathOf p .edges))) 0 ≡ classOf (schemaOf t) (pathImage (mappingOf s f) (pathOf p))
+    pub is : getD class (walkFrom first rank (getD (f .node) (p .start) 0) (joinedImages (f .edge) (pathOf p .edges))) 0 ≡ classNumber (schemaOf t) (pathImage (mappingOf s f) (pathOf p))
 
   pub side : {p : Path} → SoundPath (s .graph) p → Side p
   side {p} w =
@@ -91,7 +93,7 @@ module _ {s t : Schema} {first rank class : List ℕ} {f : Mapping} (h : Testabl
           within = rw (images-joined (p .start) (pathOf p .edges) (a .1), ← node-at s f (p .start) l) (n .within);
         };
         low = rw e (omega (arith, n .below, h .numbers .index .few));
-        is = rw e (h .numbers .classes .each (walkFrom first rank (q .start) (q .edges)) (n .below) ∙ ap (λ (x : ℕ). getD (classes T) x 0) (n .number));
+        is = rw e (h .numbers .classes .each (walkFrom first rank (q .start) (q .edges)) (n .below) ∙ ap (classNumber T) (n .is));
       }
 
   abbrev equation : ℕ → Equation
@@ -108,6 +110,6 @@ abbrev pub sideTest : List ℕ → List ℕ → List ℕ → List ℕ → List I
 sideTest first rank class node edge lefts rights q = eqb (sideClass first rank class node edge (getD lefts q noPath)) (sideClass first rank class node edge (getD rights q noPath))
 
 pub keeps-by : {s t : Schema} {first rank class : List ℕ} {f : Mapping} → Testable s t first rank class f →
-    keepsEquations (schemaOf s) (schemaOf t) (mappingOf s f) ≡ all (sideTest first rank class (f .node) (f .edge) (s .left) (s .right)) (tabulate (s .equations) (λ q. q))
-keeps-by {s} {t} {first} {rank} {class} {f} h = all-same (λ q. equal (schemaOf t) (pathImage (mappingOf s f) (q .left)) (pathImage (mappingOf s f) (q .right))) (sideTest first rank class (f .node) (f .edge) (s .left) (s .right)) (s .equations) (equation h) (λ q. q)
-    (λ q l. let u = sides h q l in rw (u .0 .is, u .1 .is))
+    keepsEquations (categoryOf s) (categoryOf t) (mappingOf s f) ≡ all (sideTest first rank class (f .node) (f .edge) (s .left) (s .right)) (tabulate (s .equations) (λ q. q))
+keeps-by {s} {t} {first} {rank} {class} {f} h = all-same (λ q. equal (categoryOf t) (pathImage (mappingOf s f) (q .left)) (pathImage (mappingOf s f) (q .right))) (sideTest first rank class (f .node) (f .edge) (s .left) (s .right)) (s .equations) (equation h) (λ q. q)
+    (λ q l. let u = sides h q l in equal-classes (schemaOf t) _ _ ∙ rw (u .0 .is, u .1 .is))

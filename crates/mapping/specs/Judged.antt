@@ -13,11 +13,11 @@ use Rattle.meaning.specs.Judge.{imagesFit, keepsEquations}
 use Rattle.agreement.specs.Paths.{pathCount, numberOf, pathAt}
 use Rattle.schema.specs.declared.Path.{Path}
 use Rattle.schema.specs.declared.Schema.{Schema}
-use Rattle.schema.specs.Decoded.{pathOf, schemaOf}
+use Rattle.schema.specs.Decoded.{pathOf, schemaOf, categoryOf}
 use Rattle.schema.specs.Judged as schemas
 use Rattle.paths.specs.declared.Paths.{Paths}
 use Rattle.paths.specs.Table.{Filled, Index}
-use Rattle.paths.specs.Classes.{classNumber, IsPaths}
+use Rattle.paths.specs.Classes.{classAt, IsPaths}
 use Rattle.paths.specs.PathWalks.{WalkIn}
 use Rattle.mapping.specs.declared.Image.{Image}
 use Rattle.mapping.specs.declared.Mapping.{Mapping}
@@ -49,7 +49,7 @@ imageNumber S T F i = numberOf (T .graph) (pathImage F (pathAt (S .graph) i))
 -- the numbers of T's paths, and their classes
 pub record Numbers (T : meaning.Schema) (first rank class : List ℕ) : Type 0 where
   pub index : Index (T .graph) first rank
-  pub classes : Filled 256 (classNumber T) (pathCount (T .graph)) class
+  pub classes : Filled 256 (classAt T) (pathCount (T .graph)) class
 
 -- and a mapping that passed test 7
 pub record Testable (s t : Schema) (first rank class : List ℕ) (f : Mapping) : Type 0 where
@@ -77,7 +77,7 @@ pub record Walkable (first rank node : List ℕ) (edge : List Image) (p : Path) 
 pub record Sound (s t : Schema) (f : Mapping) : Type 0 where
   pub short : Short (s .graph .edges) (f .edge)
   pub fits : imagesFit (schemaOf s) (schemaOf t) (mappingOf s f) ≡ true
-  pub keeps : keepsEquations (schemaOf s) (schemaOf t) (mappingOf s f) ≡ true
+  pub keeps : keepsEquations (categoryOf s) (categoryOf t) (mappingOf s f) ≡ true
 
 pub record Says (s t : Schema) (f : Mapping) (J : Judged formats.Mapping) : Type 0 where
   pub says : judgedMapping s f ≡ J

@@ -1,8 +1,13 @@
--- The edges of a path, by its number in a table of paths.
+-- The edges of a path, by its number in a table of paths; and those of the first path of a class.
 use Prim.Native.Nat.{ℕ, zero, suc, _≤_}
 use mathlib.Core.Path.{_≡_}
 use mathlib.Core.List.{List, [], _∷_, _++_}
 use lib.ListN.{getD}
+use Rattle.meaning.specs.Schema.{path}
+use Rattle.meaning.specs.PathEquality.{firstPath}
+use Rattle.schema.specs.declared.Schema.{Schema}
+use Rattle.schema.specs.declared.Path.{Path}
+use Rattle.schema.specs.Decoded.{pathOf, schemaOf}
 use Rattle.paths.specs.declared.Paths.{Paths}
 use Rattle.mapping.specs.declared.Image.{Image}
 use Rattle.mapping.specs.Decoded.{imageOf}
@@ -17,4 +22,8 @@ pathEdges paths i = edgesBack (paths .last) (paths .parent) i (getD (paths .leng
 
 pub record EdgesTaken (paths : Paths) (i : ℕ) (r : Image) : Type 0 where
   pub says : imageOf r ≡ pathEdges paths i
+  pub short : r .length ≤ 15
+
+pub record FirstTaken (t : Schema) (w : Path) (r : Image) : Type 0 where
+  pub says : path (w .start) (imageOf r) ≡ firstPath (schemaOf t) (pathOf w)
   pub short : r .length ≤ 15

@@ -11,7 +11,7 @@ ghost use mathlib.Core.Path.{_≡_};
 ghost use Prim.Native.Nat.{_<_};
 ghost use lib.ListN.{getD};
 ghost use Rattle.meaning.specs.Judge.{keepsEquations};
-ghost use Rattle.schema.specs.Decoded.{pathOf, schemaOf};
+ghost use Rattle.schema.specs.Decoded.{pathOf, schemaOf, categoryOf};
 ghost use Rattle.paths.specs.Table.{Filled};
 ghost use Rattle.paths.specs.PathWalks.{walkFrom};
 ghost use Rattle.mapping.specs.Decoded.{mappingOf};
@@ -98,7 +98,7 @@ pub fn sides_agree<'a>(
     f: Mapping,
 ) -> bool
     requires { ⌜ Testable s t (now first) (now rank) (now class) f ⌝ }
-    ensures { λ r. ⌜ r ≡ keepsEquations (schemaOf s) (schemaOf t) (mappingOf s f) ⌝ }
+    ensures { λ r. ⌜ r ≡ keepsEquations (categoryOf s) (categoryOf t) (mappingOf s f) ⌝ }
 {
     let n = s.equations;
     if n == 0 {

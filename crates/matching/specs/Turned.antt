@@ -12,7 +12,7 @@ use Rattle.theory.specs.Sigma.{share}
 use Rattle.meaning.specs.Views as views
 use Rattle.meaning.specs.Sigma.{sigma}
 use Rattle.schema.specs.declared.Schema.{Schema}
-use Rattle.schema.specs.Decoded.{schemaOf}
+use Rattle.schema.specs.Decoded.{schemaOf, categoryOf}
 use Rattle.schema.specs.Judged.{Sound}
 use Rattle.instance.specs.declared.Instance.{Instance}
 use Rattle.instance.specs.declared.tables.Table.{Table}
@@ -39,7 +39,7 @@ pub record PushedCounts (s t : Schema) (f : Mapping) (run pushed : Instance) : T
   pub nodes : NodesIn s t f
   pub run-limits : Limits s run
   pub pushed-limits : Limits t pushed
-  pub counts : tablesOf t pushed [] [] .counts ≡ sigma (schemaOf s) (schemaOf t) (mappingOf s f) (tablesOf s run [] []) .counts
+  pub counts : tablesOf t pushed [] [] .counts ≡ sigma (categoryOf s) (categoryOf t) (mappingOf s f) (tablesOf s run [] []) .counts
 
 -- ---- places in the joined lists
 

@@ -9,11 +9,12 @@ use lib.Dec.{eqb}
 use Rattle.bits.specs.Field.{field, bit, tailOk}
 use Rattle.bits.specs.Pack.{pack, gather, bitsOf, digits, number, totalWidth}
 use Rattle.theory.specs.Numbering.{sum}
-use Rattle.meaning.specs.Lists.{upto, filter, concatMap}
+use Rattle.meaning.specs.Lists.{upto, filter, concatMap, sameList}
 use Rattle.meaning.specs.Schema.{path, leaving}
 use Rattle.meaning.specs.Views.{nodeImage}
+use Rattle.meaning.specs.Category.{listedCategory}
 use Rattle.meaning.specs.Evenness as evenness
-use Rattle.meaning.specs.Calls.{Outcome, refused, accepted, _>>=_, checkSchema, samePath, Migration, migration, Migrated, deltaTables, sigmaTables, piTables, sheetOf, Sides, sides}
+use Rattle.meaning.specs.Calls.{Outcome, refused, accepted, _>>=_, checkSchema, pathQuestion, Migration, migration, Migrated, deltaTables, sigmaTables, piTables, sheetOf, Sides, sides}
 use Rattle.meaning.proofs.Examples.{vendor, operator, vendorToOperator, run, pushedRun, book, arrow, point, arrowToPoint, arrowRun, fork, line, forkToLine, forkRun, jointWeld, pair, jointWeldToPair, jointWeldRun, shortRule, longRule, ab, cd, abf, cdf, abAndByte}
 use Rattle.meaning.proofs.Matchings.{matchings}
 use Rattle.meaning.proofs.MatchingCase.{OnlyMatchings, only-matchings}
@@ -52,8 +53,15 @@ rawLists x = lists (matchings (x .m .S) (x .run) (x .pulled))
 -- for each node c of S, the lifts of each edge of T that leaves F(c)
 abbrev pub liftsOf : Migration → Answer
 liftsOf m = lifts (concatMap (λ c.
-    map (λ e. length (evenness.lifts (m .S) (m .T) (m .F) c (path (nodeImage (m .F) c) (e ∷ [])))) (leaving (m .T .graph) (nodeImage (m .F) c)))
+    map (λ e. length (evenness.lifts (listedCategory (m .S)) (listedCategory (m .T)) (m .F) c (path (nodeImage (m .F) c) (e ∷ [])))) (leaving (m .T .graph) (nodeImage (m .F) c)))
     (upto (m .S .graph .nodes)))
+
+-- two path questions: whether their answers are the same
+abbrev pub sameAnswers : List ℕ → List ℕ → List ℕ → Outcome Answer
+sameAnswers s p q = do
+  a ← pathQuestion s p
+  b ← pathQuestion s q
+  accepted (equal (sameList a b))
 
 pub record Case : Type 0 where
   pub number : ℕ
@@ -75,10 +83,10 @@ cases =
     case 5 (told liftsOf (migration fork line forkToLine)) (accepted (lifts (1 ∷ 1 ∷ []))) ∷
     case 6 (told linksOf (piTables jointWeld pair jointWeldToPair jointWeldRun))
     (accepted (links (6 ∷ 2 ∷ 3 ∷ []) ((0 ∷ 0 ∷ 0 ∷ 1 ∷ 1 ∷ 1 ∷ []) ∷ (0 ∷ 1 ∷ 2 ∷ 0 ∷ 1 ∷ 2 ∷ []) ∷ []))) ∷
-    case 7 (told equal (samePath shortRule abf cdf)) (accepted (equal true)) ∷
-    case 8 (told equal (samePath longRule ab cd)) (accepted (equal false)) ∷
+    case 7 (sameAnswers shortRule abf cdf) (accepted (equal true)) ∷
+    case 8 (sameAnswers longRule ab cd) (accepted (equal false)) ∷
     case 9 (told (λ _. checked) (checkSchema [])) (refused 1 1) ∷
-    case 9 (told equal (samePath shortRule abAndByte cd)) (refused 2 2) ∷
+    case 9 (told bytes (pathQuestion shortRule abAndByte)) (refused 2 2) ∷
     []
 
 pub cases-hold : map (λ c. c .yields) cases ≡ map (λ c. c .paper) cases

@@ -12,6 +12,7 @@ use Rattle.meaning.specs.Schema.{Equation, Schema, source, target, attri
 use Rattle.meaning.specs.Sheet.{sound, onSheet}
 use Rattle.meaning.specs.Formats.{Counts, Mapping, Instance, maxNodes, maxEdges, maxAttributes, maxEquations, maxRows, countsInLimits, readEdges, readPath, readCounts, readEdge, readAttribute, readEquation, readLists, readSchema, readMapping, readInstance, readMatching, kinds}
 use Rattle.meaning.specs.Views.{Shaped, count, link, value, edgeImage}
+use Rattle.meaning.specs.Category.{Category}
 use Rattle.meaning.specs.Judge.{isWellFormed, hasFewPaths, testSchema, judgeSchema, judgeMapping, judgeInstance, imagesFit, keepsEquations, linksInRange, valuesInRange, obeysEquations}
 use Rattle.meaning.specs.Matching.{isMatching, judgeMatching}
 use Rattle.meaning.proofs.Tabulate.{and-both}
@@ -126,11 +127,11 @@ schema-facts s e =
     })
 
 -- ---- mappings
-pub record MappingFacts (S T : Schema) (F : Mapping) : Type 0 where
-  pub nodes : length (F .nodes) ≡ S .graph .nodes
-  pub edges : length (F .edges) ≡ length (S .graph .edges)
-  pub attributes : length (F .attributes) ≡ length (S .attributes)
-  pub fits : imagesFit S T F ≡ true
+pub record MappingFacts (S T : Category) (F : Mapping) : Type 0 where
+  pub nodes : length (F .nodes) ≡ S .schema .graph .nodes
+  pub edges : length (F .edges) ≡ length (S .schema .graph .edges)
+  pub attributes : length (F .attributes) ≡ length (S .schema .attributes)
+  pub fits : imagesFit (S .schema) (T .schema) F ≡ true
   pub keeps : keepsEquations S T F ≡ true
   pub short : (e : ℕ) → length (edgeImage F e) ≤ 15
 
@@ -152,12 +153,12 @@ gives-mapping S =
 pub mapping-sized : (S : Schema) (s : List ℕ) {F : Mapping} → onSheet (readMapping S) s ≡ sound F → length (F .nodes) ≡ S .graph .nodes
 mapping-sized S s e = given (gives-mapping S) s e .nodes
 
-pub mapping-facts : (S T : Schema) (s : List ℕ) {F : Mapping} → judgeMapping S T s ≡ sound F → MappingFacts S T F
+pub mapping-facts : (S T : Category) (s : List ℕ) {F : Mapping} → judgeMapping S T s ≡ sound F → MappingFacts S T F
 mapping-facts S T s e =
-    let r = bind-sound (onSheet (readMapping S) s) _ e in
-    let f = ensure-sound (imagesFit S T (r .0)) 7 _ (r .2) in
+    let r = bind-sound (onSheet (readMapping (S .schema)) s) _ e in
+    let f = ensure-sound (imagesFit (S .schema) (T .schema) (r .0)) 7 _ (r .2) in
     let k = ensure-sound (keepsEquations S T (r .0)) 8 _ (f .1) in
-    let g = given (gives-mapping S) s (r .1) in
+    let g = given (gives-mapping (S .schema)) s (r .1) in
     subst (MappingFacts S T) (sound-same (k .1)) (record {
       nodes = g .nodes;
       edges = g .edges;

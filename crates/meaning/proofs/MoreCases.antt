@@ -1,4 +1,4 @@
--- The other runs of document 01, case 11 as document 02, C-12, has it, its traps and its program, computed: a second table.
+-- The other runs of document 01, case 11 as document 02, C-12, has it, its traps and its program, and first paths (C-14), computed: a second table.
 use Prim.Native.Nat.{ℕ}
 use Prim.Native.String.{String}
 use mathlib.Core.Path.{_≡_, refl}
@@ -10,9 +10,10 @@ use native.Mathlib.Decide.{ℕ-discrete, decLe}
 use Rattle.theory.specs.Numbering.{sum, locate}
 use Rattle.theory.specs.Sigma.{share}
 use Rattle.theory.specs.Matching.{partners}
-use Rattle.meaning.specs.Calls.{Outcome, refused, accepted, checkSchema, checkInstance, deltaTables, sigmaTables, piTables, sheetOf, pushedToRaw, rawToPushed, Lent, inTray}
+use Rattle.meaning.specs.Calls.{Outcome, refused, accepted, checkSchema, checkInstance, pathQuestion, deltaTables, sigmaTables, piTables, sheetOf, pushedToRaw, rawToPushed, Lent, inTray}
 use Rattle.meaning.specs.Program.{codes, push}
-use Rattle.meaning.proofs.Examples.{vendor, operator, vendorToOperator, run, pushedRun, book, pushedList, rawList, point}
+use Rattle.meaning.proofs.Examples.{vendor, operator, vendorToOperator, run, pushedRun, book, pushedList, rawList, point, shortRule, longRule, cd, abf, cdf}
+use Rattle.meaning.proofs.ChainCases.{twoRules, ac, ae}
 use Rattle.meaning.proofs.Cases.{Answer, bytes, counts, checked, told, countsOf}
 
 -- ---- sheets
@@ -53,6 +54,16 @@ station = 0x08 ∷ 0x01 ∷ 0x00 ∷ 0x04 ∷ []
 abbrev pub largestValue : List ℕ
 largestValue = 0x00 ∷ 0x7F ∷ 0xFF ∷ 0xFF ∷ 0xFF ∷ 0xC0 ∷ []
 
+-- edges 0 to 1, 1 to 2 and 0 to 2, with the first two followed equal to the third
+abbrev pub triangle : List ℕ
+triangle = 0x18 ∷ 0x60 ∷ 0x04 ∷ 0x04 ∷ 0x48 ∷ 0x08 ∷ 0x08 ∷ 0x01 ∷ 0x01 ∷ 0x10 ∷ []
+
+abbrev pub twoSides : List ℕ
+twoSides = 0x02 ∷ 0x00 ∷ 0x40 ∷ []
+
+abbrev pub thirdSide : List ℕ
+thirdSide = 0x01 ∷ 0x10 ∷ []
+
 -- ---- the table
 
 pub record Example : Type 0 where
@@ -85,6 +96,15 @@ moreCases =
     example "case 11: clock 0" (check (checkInstance clock (0x00 ∷ 0x40 ∷ 0x00 ∷ 0x00 ∷ 0x00 ∷ 0x00 ∷ []))) (refused 10 2) ∷
     example "case 12: 17 bytes" (lent (inTray (replicate 17 0) (sheetOf (sigmaTables vendor operator vendorToOperator run)))) (refused 16 0) ∷
     example "case 12: 18 bytes" (lent (inTray (replicate 18 0) (sheetOf (sigmaTables vendor operator vendorToOperator run)))) (accepted (bytes pushedRun)) ∷
+    example "case 7: the first of abf and cdf" (told bytes (pathQuestion shortRule cdf)) (accepted (bytes abf)) ∷
+    example "and of abf" (told bytes (pathQuestion shortRule abf)) (accepted (bytes abf)) ∷
+    example "case 8: cd stands for itself" (told bytes (pathQuestion longRule cd)) (accepted (bytes cd)) ∷
+    example "a path that two steps make" (told bytes (pathQuestion twoRules ae)) (accepted (bytes ac)) ∷
+    example "the shorter path stands first" (told bytes (pathQuestion triangle twoSides)) (accepted (bytes thirdSide)) ∷
+    example "the trivial path at 2" (told bytes (pathQuestion triangle (0x20 ∷ []))) (accepted (bytes (0x20 ∷ []))) ∷
+    example "an edge from another node" (told bytes (pathQuestion triangle (0x11 ∷ 0x00 ∷ []))) (refused 4 2) ∷
+    example "a tray of 2 bytes for 2" (lent (inTray (replicate 2 0) (pathQuestion triangle twoSides))) (accepted (bytes thirdSide)) ∷
+    example "a tray of 1 byte for 2" (lent (inTray (replicate 1 0) (pathQuestion triangle twoSides))) (refused 16 0) ∷
     example "the base example printed" (prints (push ((0 ∷ 7 ∷ vendor) ++ (0 ∷ 5 ∷ operator) ++ (0 ∷ 5 ∷ vendorToOperator) ++ (0 ∷ 20 ∷ run))))
     (prints (codes "tables 2 rows 5\n0 0 1 700\n0 1 0 300\n0 2 1 705\n1 0\n1 1\n")) ∷
     example "no input" (prints (push [])) (prints (codes "refused 1 1\n")) ∷

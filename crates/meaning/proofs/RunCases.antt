@@ -15,6 +15,7 @@ use Rattle.meaning.specs.Sheet.{sound}
 use Rattle.meaning.specs.Formats.{Instance, maxRows}
 use Rattle.meaning.specs.Views.{count, rows, link}
 use Rattle.meaning.specs.Judge.{judgeInstance}
+use Rattle.meaning.specs.Category.{listedCategory}
 use Rattle.meaning.specs.Evenness.{even}
 use Rattle.meaning.specs.Pi.{families}
 use Rattle.meaning.specs.Calls.{refused, accepted, Migration, migration, sigmaTables, piTables}
@@ -38,7 +39,7 @@ pub record ArrowToPoint : Type 0 where
   pub pi : (i : List ℕ) (I : Instance) → judgeInstance (arrowPoint .S) i ≡ sound I →
       piTables arrow point arrowToPoint i ≡ accepted (record { schema = arrowPoint .T; tables = record { counts = count I 0 ∷ []; links = []; values = [] } })
   pub pairs : (i : List ℕ) (I : Instance) → judgeInstance (arrowPoint .S) i ≡ sound I →
-      families (arrowPoint .S) (arrowPoint .T) (arrowPoint .F) I 0 ≡ map (λ x. x ∷ link I 0 x ∷ []) (rows I 0)
+      families (listedCategory (arrowPoint .S)) (listedCategory (arrowPoint .T)) (arrowPoint .F) I 0 ≡ map (λ x. x ∷ link I 0 x ∷ []) (rows I 0)
 
 -- case 5's sheets as read
 abbrev pub forkLine : Migration
@@ -64,7 +65,7 @@ unfolding field bit tailOk
 fork-read = refl
 
 module _ (s t f i : List ℕ) {m : Migration} {I : Instance} (e : migration s t f ≡ accepted m) (h : judgeInstance (m .S) i ≡ sound I) where
-  uneven : even (m .S) (m .T) (m .F) ≡ false → sigmaTables s t f i ≡ refused 12 0
+  uneven : even (listedCategory (m .S)) (listedCategory (m .T)) (m .F) ≡ false → sigmaTables s t f i ≡ refused 12 0
   uneven u = rw (e, h, u)
 
 pub fork-to-line : ForkToLine
@@ -103,10 +104,10 @@ module _ {I : Instance} (I-is : InstanceFacts (arrowPoint .S) I) where
       let below = all-of (λ e. all (λ r. ltb r (count I 1)) (getD (I .links) 0 [])) (upto 1) (I-is .links) (List·Memᴰ·head refl) in
       ltb-true (link I 0 x) (count I 1) (all-of (λ r. ltb r (count I 1)) (getD (I .links) 0 []) below (mem-getD 0 (getD (I .links) 0 []) x (rw whole (of-upto (count I 0) m))))
 
-  arrow-rows : families (arrowPoint .S) (arrowPoint .T) (arrowPoint .F) I 0 ≡ map (λ x. x ∷ link I 0 x ∷ []) (rows I 0)
+  arrow-rows : families (listedCategory (arrowPoint .S)) (listedCategory (arrowPoint .T)) (arrowPoint .F) I 0 ≡ map (λ x. x ∷ link I 0 x ∷ []) (rows I 0)
   arrow-rows = pairs (link I 0) (count I 1) (rows I 0) arrow-link
 
-  arrow-counted : length (families (arrowPoint .S) (arrowPoint .T) (arrowPoint .F) I 0) ≡ count I 0
+  arrow-counted : length (families (listedCategory (arrowPoint .S)) (listedCategory (arrowPoint .T)) (arrowPoint .F) I 0) ≡ count I 0
   arrow-counted = ap length arrow-rows ∙ length-map (rows I 0) (λ x. x ∷ link I 0 x ∷ []) ∙ upto-length (count I 0)
 
   few-rows : leb (count I 0 + 0) maxRows ≡ true

@@ -10,9 +10,10 @@ use Rattle.theory.specs.Transposition.{toRaw, toPushed}
 use Rattle.meaning.specs.Lists.{sumOf}
 use Rattle.meaning.specs.Schema.{Schema}
 use Rattle.meaning.specs.PathChain.{Step, firstChain}
-use Rattle.meaning.specs.PathEquality.{equal}
+use Rattle.meaning.specs.PathEquality.{firstPath}
+use Rattle.meaning.specs.Category.{listedCategory}
 use Rattle.meaning.specs.Sheet.{Judged, faulty, sound}
-use Rattle.meaning.specs.Formats.{Mapping, Instance, maxRows, instanceSheet, matchingSheet, chainSheet}
+use Rattle.meaning.specs.Formats.{Mapping, Instance, maxRows, pathSheet, instanceSheet, matchingSheet, chainSheet}
 use Rattle.meaning.specs.Views.{mappingOf, instanceOf}
 use Rattle.meaning.specs.Judge.{judgePath, judgeSchema, judgeMapping, judgeInstance}
 use Rattle.meaning.specs.Delta.{delta}
@@ -49,7 +50,7 @@ ensureFits J = do
   _ ← ensure (leb (sumOf (J .counts)) maxRows) 15
   accepted J
 
--- ---- checks and the path question
+-- ---- checks
 
 abbrev pub checkSchema : List ℕ → Outcome (Unit {0})
 checkSchema s = do
@@ -66,7 +67,7 @@ abbrev pub migration : List ℕ → List ℕ → List ℕ → Outcome Migration
 migration s t f = do
   S ← at 1 (judgeSchema s)
   T ← at 2 (judgeSchema t)
-  F ← at 3 (judgeMapping S T f)
+  F ← at 3 (judgeMapping (listedCategory S) (listedCategory T) f)
   accepted (record { S = S; T = T; F = F })
 
 abbrev pub checkMapping : List ℕ → List ℕ → List ℕ → Outcome (Unit {0})
@@ -80,12 +81,13 @@ checkInstance s i = do
   I ← at 2 (judgeInstance S i)
   accepted tt
 
-abbrev pub samePath : List ℕ → List ℕ → List ℕ → Outcome Bool
-samePath s p q = do
+-- ---- the path question: the first path of a path's class (document 02, C-14)
+
+abbrev pub pathQuestion : List ℕ → List ℕ → Outcome (List ℕ)
+pathQuestion s p = do
   S ← at 1 (judgeSchema s)
   P ← at 2 (judgePath (S .graph) p)
-  Q ← at 3 (judgePath (S .graph) q)
-  accepted (equal S P Q)
+  accepted (pathSheet (firstPath S P))
 
 -- ---- the chain from one path to another (document 02, C-11)
 
@@ -118,8 +120,8 @@ abbrev pub sigmaTables : List ℕ → List ℕ → List ℕ → List ℕ → Out
 sigmaTables s t f i = do
   m ← migration s t f
   I ← at 4 (judgeInstance (m .S) i)
-  _ ← ensure (even (m .S) (m .T) (m .F)) 12
-  P ← ensureFits (sigma (m .S) (m .T) (m .F) I)
+  _ ← ensure (even (listedCategory (m .S)) (listedCategory (m .T)) (m .F)) 12
+  P ← ensureFits (sigma (listedCategory (m .S)) (listedCategory (m .T)) (m .F) I)
   accepted (record { schema = m .T; tables = P })
 
 abbrev pub piTables : List ℕ → List ℕ → List ℕ → List ℕ → Outcome Migrated
@@ -127,8 +129,8 @@ piTables s t f i = do
   m ← migration s t f
   I ← at 4 (judgeInstance (m .S) i)
   _ ← ensure (isBijective (m .T) (m .F)) 13
-  _ ← ensure (hasFewComponents (m .S) (m .T) (m .F)) 14
-  P ← ensureFits (pi (m .S) (m .T) (m .F) I)
+  _ ← ensure (hasFewComponents (listedCategory (m .S)) (listedCategory (m .T)) (m .F)) 14
+  P ← ensureFits (pi (listedCategory (m .S)) (listedCategory (m .T)) (m .F) I)
   accepted (record { schema = m .T; tables = P })
 
 abbrev pub sheetOf : Outcome Migrated → Outcome (List ℕ)
@@ -151,8 +153,8 @@ sides s t f i j = do
   m ← migration s t f
   I ← at 4 (judgeInstance (m .S) i)
   J ← at 5 (judgeInstance (m .T) j)
-  _ ← ensure (even (m .S) (m .T) (m .F)) 12
-  P ← ensureFits (sigma (m .S) (m .T) (m .F) I)
+  _ ← ensure (even (listedCategory (m .S)) (listedCategory (m .T)) (m .F)) 12
+  P ← ensureFits (sigma (listedCategory (m .S)) (listedCategory (m .T)) (m .F) I)
   D ← ensureFits (delta (m .S) (m .F) J)
   accepted (record { m = m; run = I; book = J; pushed = P; pulled = D })
 

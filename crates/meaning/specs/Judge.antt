@@ -7,7 +7,7 @@ use lib.Dec.{leb, ltb, eqb}
 use Rattle.theory.specs.Schema.{endpoint}
 use Rattle.meaning.specs.Lists.{upto, all}
 use Rattle.meaning.specs.Schema.{Edge, Attribute, Path, Equation, Graph, Schema, source, target, attributeAt, end, joins, isPath, allPaths, hasLoop}
-use Rattle.meaning.specs.PathEquality.{equal}
+use Rattle.meaning.specs.Category.{Category, equal}
 use Rattle.meaning.specs.Sheet.{Judged, faulty, sound, onSheet}
 use Rattle.meaning.specs.Formats.{Mapping, Instance, readPathSheet, readSchema, readMapping, readInstance, maxPaths, Kinds, kinds, inRange}
 use Rattle.meaning.specs.Views.{nodeImage, edgeImage, attributeImage, pathImage, count, rows, column, follow}
@@ -87,18 +87,18 @@ imagesFit S T F =
     all (attributeImageFits S T F) (upto (length (S .attributes)))
 
 -- 8 (broken rule): an equation's sides have equal images
-abbrev pub keepsEquations : Schema → Schema → Mapping → Bool
-keepsEquations S T F = all (λ q. equal T (pathImage F (q .left)) (pathImage F (q .right))) (S .equations)
+abbrev pub keepsEquations : Category → Category → Mapping → Bool
+keepsEquations S T F = all (λ q. equal T (pathImage F (q .left)) (pathImage F (q .right))) (S .schema .equations)
 
-abbrev pub testMapping : Schema → Schema → Mapping → Judged Mapping
+abbrev pub testMapping : Category → Category → Mapping → Judged Mapping
 testMapping S T F = do
-  _ ← ensure (imagesFit S T F) 7
+  _ ← ensure (imagesFit (S .schema) (T .schema) F) 7
   _ ← ensure (keepsEquations S T F) 8
   sound F
 
-abbrev pub judgeMapping : Schema → Schema → List ℕ → Judged Mapping
+abbrev pub judgeMapping : Category → Category → List ℕ → Judged Mapping
 judgeMapping S T s = do
-  F ← onSheet (readMapping S) s
+  F ← onSheet (readMapping (S .schema)) s
   testMapping S T F
 
 -- ---- instance of S: 9, 10, 11

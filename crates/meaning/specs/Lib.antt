@@ -3,6 +3,7 @@ pub mod Lists
 pub mod Schema
 pub mod PathChain
 pub mod PathEquality
+pub mod Category
 pub mod Sheet
 pub mod Formats
 pub mod Views

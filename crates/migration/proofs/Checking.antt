@@ -5,9 +5,10 @@ use mathlib.Core.List.{List}
 use Rattle.meaning.specs.Schema as meaning
 use Rattle.meaning.specs.Judge.{judgeSchema, judgePath, judgeMapping, judgeInstance}
 use Rattle.meaning.specs.Calls.{accepted, _>>=_, at, Migration, checkSchema, migration, checkInstance}
+use Rattle.meaning.specs.Category.{listedCategory}
 use Rattle.schema.specs.declared.Schema.{Schema}
 use Rattle.schema.specs.declared.JudgedPath.{JudgedPath}
-use Rattle.schema.specs.Decoded.{graphOf, pathOf, schemaOf, judgedSchema}
+use Rattle.schema.specs.Decoded.{graphOf, pathOf, schemaOf, judgedSchema, categoryOf}
 use Rattle.schema.specs.Judged.{SoundPath, PathSays}
 use Rattle.instance.specs.declared.Instance.{Instance}
 use Rattle.instance.specs.Decoded.{tablesOf, judgedInstance}
@@ -29,6 +30,20 @@ module _ (t : Schema) (s : List ℕ) (S : judgedSchema t ≡ judgeSchema s) wher
 
   pub instance-checked : (r : Refusal) (e : List ℕ) → outcomeOf r tt ≡ checkedSheet (schemaOf t) e → outcomeOf (orNext (refusal (t .fault) 1) r) tt ≡ checkInstance s e
   instance-checked r e h = then (refusal (t .fault) 1) (schemaOf t) schema-at r tt (λ S. checkedSheet S e) h
+
+  -- a schema and one of its paths, and what is made of them
+  module _ (a : JudgedPath) (p : List ℕ) (P : PathSays (graphOf (t .graph)) a (judgePath (graphOf (t .graph)) p)) where
+    pub path-judged : {A : Type 0} (g : meaning.Schema → meaning.Path → A)
+        → outcomeOf (orNext (refusal (t .fault) 1) (refusal (a .fault) 2)) (g (schemaOf t) (pathOf (a .path))) ≡ (at 1 (judgeSchema s) >>= λ S. at 2 (judgePath (S .graph) p) >>= λ P. accepted (g S P))
+    path-judged g =
+        then (refusal (t .fault) 1) (schemaOf t) schema-at (refusal (a .fault) 2) (g (schemaOf t) (pathOf (a .path))) (λ S. do
+          P ← at 2 (judgePath (S .graph) p)
+          accepted (g S P))
+        (yields (refusal (a .fault) 2) (pathOf (a .path)) (judged-at (a .fault) 2 (pathOf (a .path)) (P .says)) (g (schemaOf t)))
+
+    -- where none is refused, it is a path
+    pub path-sound : orNext (refusal (t .fault) 1) (refusal (a .fault) 2) .number ≡ 0 → SoundPath (t .graph) (a .path)
+    path-sound e = record { short = P .short; path = P .path (none-next (refusal (t .fault) 1) (refusal (a .fault) 2) e) }
 
   -- a schema and two of its paths, and what is made of them
   module _ (a b : JudgedPath) (p q : List ℕ) (P : PathSays (graphOf (t .graph)) a (judgePath (graphOf (t .graph)) p)) (Q : PathSays (graphOf (t .graph)) b (judgePath (graphOf (t .graph)) q)) where
@@ -55,16 +70,16 @@ module _ (t : Schema) (s : List ℕ) (S : judgedSchema t ≡ judgeSchema s) wher
           record { short = Q .short; path = Q .path (none-next two (refusal (b .fault) 3) e) },
         )
 
-  pub mapping-opened : (u : Schema) (m : Mapping) (z f : List ℕ) → judgedSchema u ≡ judgeSchema z → judgedMapping t m ≡ judgeMapping (schemaOf t) (schemaOf u) f
+  pub mapping-opened : (u : Schema) (m : Mapping) (z f : List ℕ) → judgedSchema u ≡ judgeSchema z → judgedMapping t m ≡ judgeMapping (categoryOf t) (categoryOf u) f
       → outcomeOf (orNext (orNext (refusal (t .fault) 1) (refusal (u .fault) 2)) (refusal (m .fault) 3)) (record { S = schemaOf t; T = schemaOf u; F = mappingOf t m }) ≡ migration s z f
   mapping-opened u m z f T F =
       let result : Migration = record { S = schemaOf t; T = schemaOf u; F = mappingOf t m } in
       rw (or-assoc (refusal (t .fault) 1) (refusal (u .fault) 2) (refusal (m .fault) 3)) (
       then (refusal (t .fault) 1) (schemaOf t) schema-at (orNext (refusal (u .fault) 2) (refusal (m .fault) 3)) result (λ S. do
         T ← at 2 (judgeSchema z)
-        F ← at 3 (judgeMapping S T f)
+        F ← at 3 (judgeMapping (listedCategory S) (listedCategory T) f)
         accepted (record { S = S; T = T; F = F }))
       (then (refusal (u .fault) 2) (schemaOf u) (judged-at (u .fault) 2 (schemaOf u) T) (refusal (m .fault) 3) result (λ T. do
-        F ← at 3 (judgeMapping (schemaOf t) T f)
+        F ← at 3 (judgeMapping (categoryOf t) (listedCategory T) f)
         accepted (record { S = schemaOf t; T = T; F = F }))
       (yields (refusal (m .fault) 3) (mappingOf t m) (judged-at (m .fault) 3 (mappingOf t m) F) (λ F. record { S = schemaOf t; T = schemaOf u; F = F }))))

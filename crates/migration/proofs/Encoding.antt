@@ -1,7 +1,7 @@
 -- The number that an export gives, taken apart, is the call's outcome: refusals are numbered below 256, and results are below 2^32.
 use Prim.Native.Nat.{ℕ, _+_, _*_, _/_, _%_, _<_, _≤_}
 use mathlib.Core.Path.{_≡_, refl, sym, ap, _∙_}
-use mathlib.Core.Bool.{Bool, true, false, cond, _&&_}
+use mathlib.Core.Bool.{Bool, true, _&&_}
 use mathlib.Core.List.{List, []}
 use native.Mathlib.Omega.{arith}
 use native.Mathlib.Decide.{decLt}
@@ -17,18 +17,20 @@ use Rattle.meaning.specs.Sheet.{sound}
 use Rattle.meaning.specs.Formats.{Instance, maxInstanceBytes, instanceSheet, matchingSheet}
 use Rattle.meaning.specs.Views.{schemaOf, mappingOf, instanceOf}
 use Rattle.meaning.specs.Judge.{judgePath, judgeSchema}
-use Rattle.meaning.specs.Calls.{Outcome, refused, accepted, _>>=_, pathChain, Migrated, deltaTables, sigmaTables, piTables, sheetOf, Sides, sides, judgePushed, judgeRaw, pushedToRaw, rawToPushed, inTray, rawSheet, pushedSheet}
+use Rattle.meaning.specs.Calls.{Outcome, refused, accepted, _>>=_, pathQuestion, pathChain, Migrated, deltaTables, sigmaTables, piTables, sheetOf, Sides, sides, judgePushed, judgeRaw, pushedToRaw, rawToPushed, inTray, rawSheet, pushedSheet}
 use Rattle.meaning.proofs.Lists.{all-of}
 use Rattle.meaning.proofs.Tabulate.{and-both}
 use Rattle.meaning.proofs.Facts.{schema-facts}
-use Rattle.meaning.proofs.Written.{instance-bytes, matching-sheet-length, chain-sheet-length}
+use Rattle.meaning.proofs.Written.{instance-bytes, path-sheet-length, matching-sheet-length, chain-sheet-length}
 use Rattle.agreement.specs.Paths.{EqualPaths}
 use Rattle.agreement.specs.PathChains.{ChainAnswers}
 use Rattle.agreement.specs.Tests.{Refusal, Tests, Decides}
 use Rattle.agreement.proofs.Tests.{accepted-same, decides-giving, refused-in}
-use Rattle.agreement.proofs.Outcomes.{checkSchema-decided, checkMapping-decided, checkInstance-decided, samePath-decided, checkPushed-decided, checkRaw-decided, pathChain-answer, delta-answer, sigma-answer, pi-answer, pushedToRaw-answer, rawToPushed-answer, accepted-tray}
+use Rattle.agreement.proofs.Paths.{path-short}
+use Rattle.agreement.proofs.Categories.{schema-well-formed}
+use Rattle.agreement.proofs.Outcomes.{checkSchema-decided, checkMapping-decided, checkInstance-decided, checkPushed-decided, checkRaw-decided, pathQuestion-answer, pathChain-answer, delta-answer, sigma-answer, pi-answer, pushedToRaw-answer, rawToPushed-answer, accepted-tray}
 use Rattle.agreement.proofs.Accepted.{bind-accepted, sheet-accepted, SidesSound, sides-accepted}
-use Rattle.agreement.proofs.AcceptedSheets.{chain-answers}
+use Rattle.agreement.proofs.AcceptedSheets.{path-answer, chain-answers}
 use Rattle.agreement.proofs.Tables.{rows-sum}
 use Rattle.agreement.specs.Valid.{ValidInstance}
 use Rattle.agreement.proofs.Valid.{mapping-valid, instance-valid}
@@ -36,7 +38,7 @@ use Rattle.agreement.proofs.Evenness.{even-iff}
 use Rattle.agreement.proofs.Sigma.{sigma-valid}
 use Rattle.agreement.specs.Agrees.{Lendable}
 use Rattle.agreement.proofs.Agrees.{delta-agrees, sigma-agrees, pi-agrees}
-use Rattle.migration.specs.Encoding.{Says, ExportsSay, maxMatchingBytes, maxChainBytes, Within, ResultsWithin}
+use Rattle.migration.specs.Encoding.{Says, ExportsSay, maxPathBytes, maxMatchingBytes, maxChainBytes, Within, ResultsWithin}
 
 -- ---- byte lengths
 
@@ -85,6 +87,19 @@ module _ (s t f i j : List ℕ) where
       let k : sheet (a .0) (b .0) ≡ bytes = accepted-same (b .2) in
       rw k at (h (a .0) (sides-accepted s t f i j (a .1)) (b .0))
 
+-- the sheet of a path
+path-within : (s p : List ℕ) → Within maxPathBytes (pathQuestion s p)
+path-within s p bytes e =
+    let a = sheet-accepted 1 (judgeSchema s) _ e in
+    let b = sheet-accepted 2 (judgePath (a .0 .graph) p) _ (a .2) in
+    let x = path-answer s p (a .1) (b .1) in
+    let f = schema-facts s (a .1) in
+    let l = path-short (a .0) (schema-well-formed f) (x .first .start) (x .first .edges) (x .is-path) in
+    bound (length (x .first .edges)) (length bytes) (ap length (accepted-same (sym e ∙ x .answer)) ∙ path-sheet-length (x .first)) (omega (arith, f .nodes))
+  where
+    bound : (n b : ℕ) → b ≡ (8 + 5 * n + 7) / 8 → n ≤ 15 → b ≤ 11
+    bound n b e h = omega arith
+
 -- the sheet of a chain
 module _ {s p q : List ℕ} {S : Schema} {P Q : Path} (x : ChainAnswers s p q S P Q) where
   answer-within : Within maxChainBytes (pathChain s p q)
@@ -112,6 +127,7 @@ chain-within s p q bytes e =
 
 pub results-within : ResultsWithin
 results-within = record {
+  first-path = path-within;
   path-chain = chain-within;
   delta = λ s t f j. sheet-within (λ M e. let a = delta-agrees s t f j e in lendable-within s (a .inputs .S-accepted) (a .lendable));
   sigma = λ s t f i. sheet-within (λ M e. let a = sigma-agrees s t f i e in lendable-within t (a .inputs .T-accepted) (a .lendable));
@@ -155,16 +171,12 @@ module _ {rs : List Refusal} {t : Tests ℕ rs} (tray : List ℕ) (o : Outcome (
       let r = accepted-tray tray o e in
       omega (arith, w (r .bytes) (r .result), r .size))
 
-bit : (b : Bool) → cond b 1 0 < 2
-bit true = omega arith
-bit false = omega arith
-
 pub exports-say : ExportsSay
 exports-say = record {
   check-schema = λ s. says-small (checkSchema-decided s) refl (λ _. 0) (λ _. omega arith);
   check-mapping = λ s t f. says-small (checkMapping-decided s t f) refl (λ _. 0) (λ _. omega arith);
   check-instance = λ s i. says-small (checkInstance-decided s i) refl (λ _. 0) (λ _. omega arith);
-  same-path = λ s p q. says-small (samePath-decided s p q) refl (λ b. cond b 1 0) bit;
+  first-path = λ s p tray. says-bytes tray (pathQuestion s p) maxPathBytes (pathQuestion-answer tray s p) refl (results-within .first-path s p) (omega arith);
   path-chain = λ s p q tray. says-bytes tray (pathChain s p q) maxChainBytes (pathChain-answer tray s p q) refl (results-within .path-chain s p q) (omega arith);
   delta = λ s t f j tray. says-bytes tray (sheetOf (deltaTables s t f j)) maxInstanceBytes (delta-answer tray s t f j) refl (results-within .delta s t f j) (omega arith);
   sigma = λ s t f i tray. says-bytes tray (sheetOf (sigmaTables s t f i)) maxInstanceBytes (sigma-answer tray s t f i) refl (results-within .sigma s t f i) (omega arith);

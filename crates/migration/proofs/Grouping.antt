@@ -18,6 +18,7 @@ use Rattle.meaning.specs.Delta.{delta}
 use Rattle.meaning.specs.Sigma.{sigma}
 use Rattle.meaning.specs.Calls as meaning
 use Rattle.meaning.specs.Calls.{Outcome, accepted, _>>=_, at, ensure, Migration, migration, sides, judgeRaw, judgePushed, checkRaw, checkPushed, pushedToRaw, rawToPushed}
+use Rattle.meaning.specs.Category.{listedCategory}
 use Rattle.matching.specs.Compared.{partnersOf}
 use Rattle.migration.specs.declared.Refusal.{Refusal}
 use Rattle.migration.specs.declared.open.Opened.{Opened}
@@ -37,18 +38,18 @@ grouped s t f i j =
     bind-assoc (migration s t f) _ sized _ (λ m.
     bind-assoc (at 4 (judgeInstance (m .S) i)) _ sized _ (λ I.
     bind-assoc (at 5 (judgeInstance (m .T) j)) _ sized _ (λ J.
-    bind-assoc (ensure (even (m .S) (m .T) (m .F)) 12) _ sized _ (λ u. refl))))
+    bind-assoc (ensure (even (listedCategory (m .S)) (listedCategory (m .T)) (m .F)) 12) _ sized _ (λ u. refl))))
 
 module _ {B : Type 0} (y : Inputs) (k h : meaning.Sides → Outcome B) where
   -- both sizes pass, or nothing follows
   sized-only : k (sidesOf y) ≡ h (sidesOf y) → (sized y >>= k) ≡ (sized y >>= h)
-  sized-only e = go (leb (sumOf (sigma (y .m .S) (y .m .T) (y .m .F) (y .run) .counts)) maxRows) (leb (sumOf (delta (y .m .S) (y .m .F) (y .book) .counts)) maxRows)
+  sized-only e = go (leb (sumOf (sigma (listedCategory (y .m .S)) (listedCategory (y .m .T)) (y .m .F) (y .run) .counts)) maxRows) (leb (sumOf (delta (y .m .S) (y .m .F) (y .book) .counts)) maxRows)
     where
       by : Bool → Bool → Outcome meaning.Sides
       by a b = do
         P ← do
           _ ← ensure a 15
-          accepted (sigma (y .m .S) (y .m .T) (y .m .F) (y .run))
+          accepted (sigma (listedCategory (y .m .S)) (listedCategory (y .m .T)) (y .m .F) (y .run))
         D ← do
           _ ← ensure b 15
           accepted (delta (y .m .S) (y .m .F) (y .book))

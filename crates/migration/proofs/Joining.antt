@@ -10,7 +10,8 @@ use Rattle.meaning.specs.Pi.{isBijective, hasFewComponents}
 use Rattle.meaning.specs.Judge.{judgeInstance}
 use Rattle.meaning.specs.Calls as meaning
 use Rattle.meaning.specs.Calls.{Outcome, at, ensure, Migration, migration, piTables, _>>=_}
-use Rattle.schema.specs.Decoded.{schemaOf}
+use Rattle.meaning.specs.Category.{listedCategory}
+use Rattle.schema.specs.Decoded.{schemaOf, categoryOf}
 use Rattle.schema.specs.Judged.{Sound}
 use Rattle.mapping.specs.Decoded.{mappingOf}
 use Rattle.instance.specs.declared.Instance.{Instance}
@@ -47,7 +48,7 @@ two-passed true false e = absurd (omega arith)
 two-passed false b e = absurd (omega arith)
 
 abbrev rest : RunInput → Outcome meaning.Migrated
-rest y = ensure (isBijective (y .m .T) (y .m .F)) 13 >>= λ _. ensure (hasFewComponents (y .m .S) (y .m .T) (y .m .F)) 14 >>= λ _. joinedRun y
+rest y = ensure (isBijective (y .m .T) (y .m .F)) 13 >>= λ _. ensure (hasFewComponents (listedCategory (y .m .S)) (listedCategory (y .m .T)) (y .m .F)) 14 >>= λ _. joinedRun y
 
 module _ (o : Opened) (run : Instance) (links values rows : List ℕ) where
   abbrev input : RunInput
@@ -60,7 +61,7 @@ module _ (o : Opened) (run : Instance) (links values rows : List ℕ) where
   paired = isBijective (schemaOf (o .target)) (mappingOf (o .source) (o .mapping))
 
   abbrev narrow : Bool
-  narrow = hasFewComponents (schemaOf (o .source)) (schemaOf (o .target)) (mappingOf (o .source) (o .mapping))
+  narrow = hasFewComponents (categoryOf (o .source)) (categoryOf (o .target)) (mappingOf (o .source) (o .mapping))
 
   -- the families make Pi's tables, or there are too many
   module _ {k : Components} {l : Listing} {n : ℕ} (L : ListsPi (o .source) (o .target) (o .«target_paths») (o .mapping) run k links values l rows) (d : n ≡ cond (l .fits) 0 15) where

@@ -15,6 +15,7 @@ use Rattle.meaning.specs.Matching.{judgeMatching}
 use Rattle.meaning.specs.Sigma.{sigma}
 use Rattle.meaning.specs.Calls as meaning
 use Rattle.meaning.specs.Calls.{Outcome, refused, accepted, _>>=_, judgeRaw, judgePushed}
+use Rattle.meaning.specs.Category.{listedCategory}
 use Rattle.schema.specs.Decoded.{frontOf}
 use Rattle.instance.specs.declared.Instance.{Instance}
 use Rattle.instance.specs.Decoded.{tablesOf, RoomFor}
@@ -37,8 +38,8 @@ module _ {x : Sides} {links values links′ values′ : List ℕ} (M : Migratabl
   pulled = deltaOf (x .opened .source) (x .opened .target) (x .opened .mapping) (x .book) links′ values′
 
   -- 15 never arises for Sigma
-  fit : leb (sumOf (sigma (y .m .S) (y .m .T) (y .m .F) (y .run) .counts)) maxRows ≡ true
-  fit = le-leb (sumOf (sigma (y .m .S) (y .m .T) (y .m .F) (y .run) .counts)) maxRows (pushed-valid M .few-rows)
+  fit : leb (sumOf (sigma (listedCategory (y .m .S)) (listedCategory (y .m .T)) (y .m .F) (y .run) .counts)) maxRows ≡ true
+  fit = le-leb (sumOf (sigma (listedCategory (y .m .S)) (listedCategory (y .m .T)) (y .m .F) (y .run) .counts)) maxRows (pushed-valid M .few-rows)
 
   both-fit : leb (sumOf (pulled .counts)) maxRows ≡ true → sized y ≡ accepted (sidesOf y)
   both-fit e = rw (fit, e)

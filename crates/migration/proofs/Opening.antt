@@ -7,7 +7,8 @@ use native.Mathlib.Omega.{arith}
 use Rattle.meaning.specs.Judge.{judgeInstance}
 use Rattle.meaning.specs.Evenness.{even}
 use Rattle.meaning.specs.Calls.{Outcome, accepted, at, ensure, Migration, _>>=_}
-use Rattle.schema.specs.Decoded.{schemaOf}
+use Rattle.meaning.specs.Category.{listedCategory}
+use Rattle.schema.specs.Decoded.{schemaOf, categoryOf}
 use Rattle.mapping.specs.Decoded.{mappingOf}
 use Rattle.instance.specs.declared.Instance.{Instance}
 use Rattle.instance.specs.Decoded.{tablesOf}
@@ -51,7 +52,7 @@ module _ (o : Opened) {M : Outcome Migration} (O : Opens o M) (run : Instance) (
 module _ (o : Opened) {M : Outcome Migration} (O : Opens o M) (run book : Instance) (links values links′ values′ i j : List ℕ)
     (I : Tested (o .source) run links values (judgeInstance (schemaOf (o .source)) i)) (J : Tested (o .target) book links′ values′ (judgeInstance (schemaOf (o .target)) j)) where
   abbrev is-even : Bool
-  is-even = even (schemaOf (o .source)) (schemaOf (o .target)) (mappingOf (o .source) (o .mapping))
+  is-even = even (categoryOf (o .source)) (categoryOf (o .target)) (mappingOf (o .source) (o .mapping))
 
   abbrev evenness : Refusal
   evenness = refusal (cond is-even 0 12) 0
@@ -74,7 +75,7 @@ module _ (o : Opened) {M : Outcome Migration} (O : Opens o M) (run book : Instan
       then (o .refusal) (migrationOf o) (O .says) (orNext run-refusal (orNext book-refusal evenness)) result (λ m. do
         I ← at 4 (judgeInstance (m .S) i)
         J ← at 5 (judgeInstance (m .T) j)
-        _ ← ensure (even (m .S) (m .T) (m .F)) 12
+        _ ← ensure (even (listedCategory (m .S)) (listedCategory (m .T)) (m .F)) 12
         accepted (record { m = m; run = I; book = J }))
       (then run-refusal (result .run) (judged-at (run .fault) 4 (result .run) (I .says)) (orNext book-refusal evenness) result (λ I. do
         J ← at 5 (judgeInstance (schemaOf (o .target)) j)

@@ -12,7 +12,8 @@ use Rattle.meaning.specs.Evenness.{even}
 use Rattle.meaning.specs.Judge.{judgeInstance}
 use Rattle.meaning.specs.Calls as meaning
 use Rattle.meaning.specs.Calls.{Outcome, _>>=_, at, ensure, Migration, migration, sigmaTables}
-use Rattle.schema.specs.Decoded.{schemaOf, frontOf}
+use Rattle.meaning.specs.Category.{listedCategory}
+use Rattle.schema.specs.Decoded.{schemaOf, frontOf, categoryOf}
 use Rattle.schema.specs.Judged.{Sound}
 use Rattle.mapping.specs.Decoded.{mappingOf}
 use Rattle.instance.specs.declared.Instance.{Instance}
@@ -30,11 +31,11 @@ use Rattle.migration.proofs.Migrating.{size, sized, made, stopped}
 use Rattle.migration.proofs.Opening.{passed}
 
 abbrev rest : RunInput → Outcome meaning.Migrated
-rest y = ensure (even (y .m .S) (y .m .T) (y .m .F)) 12 >>= λ _. pushedRun y
+rest y = ensure (even (listedCategory (y .m .S)) (listedCategory (y .m .T)) (y .m .F)) 12 >>= λ _. pushedRun y
 
 module _ (o : Opened) (run : Instance) (links values : List ℕ) where
   abbrev is-even : Bool
-  is-even = even (schemaOf (o .source)) (schemaOf (o .target)) (mappingOf (o .source) (o .mapping))
+  is-even = even (categoryOf (o .source)) (categoryOf (o .target)) (mappingOf (o .source) (o .mapping))
 
   abbrev tables : formats.Instance
   tables = sigmaOf (o .source) (o .target) (o .mapping) run links values

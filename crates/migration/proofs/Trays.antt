@@ -11,11 +11,12 @@ use lib.Dec.{eqb}
 use Rattle.bits.specs.Field.{bytesFor}
 use Rattle.theory.proofs.Numbering.{tabulate-length}
 use Rattle.meaning.specs.PathChain.{Step}
-use Rattle.meaning.specs.Formats.{instanceSheet, chainSheet}
+use Rattle.meaning.specs.Schema.{Path, path}
+use Rattle.meaning.specs.Formats.{pathSheet, instanceSheet, chainSheet}
 use Rattle.meaning.specs.Calls as meaning
 use Rattle.meaning.specs.Calls.{Outcome, refused, accepted, explanation, sheetOf, Lent, written, inTray}
 use Rattle.meaning.proofs.StepNumbers.{stepOf}
-use Rattle.meaning.proofs.Written.{chain-sheet-length}
+use Rattle.meaning.proofs.Written.{path-sheet-length, chain-sheet-length}
 use Rattle.schema.specs.Decoded.{frontOf}
 use Rattle.chain.specs.Found.{chainOf}
 use Rattle.instance.specs.Decoded.{tablesOf}
@@ -65,6 +66,17 @@ module _ (m : Migrated) (links values tray : List ℕ) where
 
     pub migrated-small : length tray < sheetBytes (m .schema) (m .tables) → lent (refused 16 0) tray ≡ told
     migrated-small h = tray-small sheet tray (omega (arith, sheet-length (m .schema) (m .tables) links values)) ∙ migrated-told
+
+-- ---- the first path of a class, by its start and its edges
+module _ (tray : List ℕ) (start n : ℕ) (l : List ℕ) {g : Path} (e : path start (frontOf n l) ≡ g) where
+  path-bytes : length (pathSheet (path start (frontOf n l))) ≡ bytesFor (8 + 5 * n)
+  path-bytes = path-sheet-length (path start (frontOf n l)) ∙ ap (λ (k : ℕ). bytesFor (8 + 5 * k)) (tabulate-length n (λ i. getD l i 0))
+
+  pub path-told : {m : ℕ} {out : List ℕ} → bytesFor (8 + 5 * n) ≤ length tray → Written (pathSheet (path start (frontOf n l))) tray m out → lent (accepted m) out ≡ inTray tray (accepted (pathSheet g))
+  path-told h w = tray-written (pathSheet (path start (frontOf n l))) tray (omega (arith, path-bytes)) w ∙ ap (λ (x : Path). written tray (pathSheet x)) e
+
+  pub path-small : length tray < bytesFor (8 + 5 * n) → lent (refused 16 0) tray ≡ inTray tray (accepted (pathSheet g))
+  path-small h = tray-small (pathSheet (path start (frontOf n l))) tray (omega (arith, path-bytes)) ∙ ap (λ (x : Path). written tray (pathSheet x)) e
 
 -- ---- the chain between two paths, which is told as none where there are no bytes
 module _ (tray : List ℕ) (n : ℕ) (l : List ℕ) {x : Option (List Step)} (e : chainOf n l ≡ x) where

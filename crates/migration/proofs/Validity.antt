@@ -15,13 +15,15 @@ use Rattle.meaning.specs.Views.{Shaped, count}
 use Rattle.meaning.specs.Views as views
 use Rattle.meaning.specs.Judge.{linksInRange}
 use Rattle.meaning.specs.Sigma.{sigma}
+use Rattle.meaning.specs.Category.{listedCategory}
 use Rattle.agreement.proofs.Instances.{instance-is, links-iff}
+use Rattle.agreement.proofs.Categories.{listed-category}
 use Rattle.agreement.proofs.Mappings.{mapping-is}
 use Rattle.agreement.specs.Valid.{ValidMapping, ValidInstance}
 use Rattle.agreement.proofs.Evenness.{even-iff}
 use Rattle.agreement.proofs.Sigma.{sigma-total, sigma-valid}
 use Rattle.schema.specs.declared.Schema.{Schema}
-use Rattle.schema.specs.Decoded.{schemaOf}
+use Rattle.schema.specs.Decoded.{schemaOf, categoryOf}
 use Rattle.schema.specs.Judged.{Sound}
 use Rattle.schema.proofs.GraphEdges.{edges-count, source-at}
 use Rattle.schema.proofs.SoundSchema.{source-in, home-in}
@@ -67,13 +69,14 @@ module _ {t : Schema} (A : Sound t) (i : Instance) (links values : List ℕ) whe
 
 -- ---- a mapping
 
-pub ready-valid : {o : Opened} → Ready o → ValidMapping (schemaOf (o .source)) (schemaOf (o .target)) (mappingOf (o .source) (o .mapping))
+pub ready-valid : {o : Opened} → Ready o → ValidMapping (categoryOf (o .source)) (categoryOf (o .target)) (mappingOf (o .source) (o .mapping))
 ready-valid {o} R = record {
-  S-formed = formed (R .schemas .source);
-  T-formed = formed (R .schemas .target);
+  S-is = listed-category (schemaOf (o .source)) (formed (R .schemas .source));
+  T-is = listed-category (schemaOf (o .target)) (formed (R .schemas .target));
   attributes = tabulate-length (o .source .attributes) (λ k. getD (o .mapping .attribute) k 0) ∙ sym (attributes-count (o .source));
   is =
-      mapping-is (schemaOf (o .source)) (schemaOf (o .target)) (mappingOf (o .source) (o .mapping)) (formed (R .schemas .source)) (formed (R .schemas .target))
+      mapping-is (categoryOf (o .source)) (categoryOf (o .target)) (mappingOf (o .source) (o .mapping))
+      (listed-category (schemaOf (o .source)) (formed (R .schemas .source))) (listed-category (schemaOf (o .target)) (formed (R .schemas .target)))
       (tabulate-length (o .source .graph .nodes) (λ k. getD (o .mapping .node) k 0)) (R .mapping .fits) (R .mapping .keeps);
 }
 
@@ -92,7 +95,7 @@ module _ {x : Sides} {links values links′ values′ : List ℕ} (M : Migratabl
   abbrev run : formats.Instance
   run = tablesOf (x .opened .source) (x .run) links values
 
-  mapping-valid : ValidMapping S T F
+  mapping-valid : ValidMapping (listedCategory S) (listedCategory T) F
   mapping-valid = ready-valid (M .ready)
 
   mapping-even : Even (views.mappingOf S T F)
@@ -101,11 +104,11 @@ module _ {x : Sides} {links values links′ values′ : List ℕ} (M : Migratabl
   run-valid : ValidInstance S run
   run-valid = accepted-valid (M .ready .schemas .source) (x .run) links values (M .run-limits) (M .run)
 
-  pub pushed-valid : ValidInstance T (sigma S T F run)
+  pub pushed-valid : ValidInstance T (sigma (listedCategory S) (listedCategory T) F run)
   pushed-valid = sigma-valid mapping-valid mapping-even run-valid
 
-  pub pushed-rows : sumOf (sigma S T F run .counts) ≡ sumOf (run .counts)
+  pub pushed-rows : sumOf (sigma (listedCategory S) (listedCategory T) F run .counts) ≡ sumOf (run .counts)
   pushed-rows = sigma-total mapping-valid mapping-even run-valid
 
-  pub pushed-links-in : linksInRange T (sigma S T F run) ≡ true
-  pushed-links-in = links-iff kinds T (sigma S T F run) (pushed-valid .shaped) .1 (pushed-valid .is .link-in)
+  pub pushed-links-in : linksInRange T (sigma (listedCategory S) (listedCategory T) F run) ≡ true
+  pushed-links-in = links-iff kinds T (sigma (listedCategory S) (listedCategory T) F run) (pushed-valid .shaped) .1 (pushed-valid .is .link-in)

@@ -1,7 +1,7 @@
 -- What an answer says in the terms of document 01: the number and the values of each case of an enum.
 use Prim.Native.Nat.{ℕ, _+_, _*_}
 use mathlib.Core.Path.{_≡_}
-use mathlib.Core.Bool.{Bool, true, false, cond}
+use mathlib.Core.Bool.{cond}
 use mathlib.Core.List.{List}
 use lib.Dec.{eqb}
 use Rattle.meaning.specs.Schema.{Schema}
@@ -10,8 +10,6 @@ use Rattle.meaning.specs.Calls.{Outcome, refused, accepted, _>>=_, at, checkPus
 use Rattle.migration.specs.declared.Refusal.{Refusal}
 use Rattle.migration.specs.declared.Verdict.{Verdict}
 use Rattle.migration.specs.declared.Verdict.the-variants as verdict
-use Rattle.migration.specs.declared.Equality.{Equality}
-use Rattle.migration.specs.declared.Equality.the-variants as equality
 use Rattle.migration.specs.declared.Explained.{Explained}
 use Rattle.migration.specs.declared.Explained.the-variants as explain
 use Rattle.migration.specs.declared.Written.{Written}
@@ -20,11 +18,6 @@ use Rattle.migration.specs.declared.Written.the-variants as written
 abbrev pub verdictOf : Verdict → Outcome (Unit {0})
 verdictOf verdict.Accepted = accepted tt
 verdictOf (verdict.Refused r) = refused (r .number) (r .place)
-
-abbrev pub equalityOf : Equality → Outcome Bool
-equalityOf equality.Equal = accepted true
-equalityOf equality.Unequal = accepted false
-equalityOf (equality.Refused r) = refused (r .number) (r .place)
 
 abbrev pub writtenOf : Written → Outcome ℕ
 writtenOf (written.Bytes n) = accepted n
@@ -80,12 +73,6 @@ abbrev pub checked : Outcome (Unit {0}) → Outcome ℕ
 checked o = do
   _ ← o
   accepted 0
-
--- equal paths are 1, unequal ones 0
-abbrev pub answered : Outcome Bool → Outcome ℕ
-answered o = do
-  b ← o
-  accepted (cond b 1 0)
 
 -- a byte length, and the tray
 abbrev pub returned : Lent → ℕ × List ℕ

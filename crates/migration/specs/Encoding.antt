@@ -7,8 +7,8 @@ use mathlib.Core.List.{List}
 use lib.ListN.{length}
 use lib.Dec.{ltb}
 use Rattle.meaning.specs.Formats.{maxInstanceBytes}
-use Rattle.meaning.specs.Calls.{Outcome, refused, accepted, checkSchema, checkMapping, checkInstance, samePath, pathChain, deltaTables, sigmaTables, piTables, sheetOf, checkPushed, checkRaw, pushedToRaw, rawToPushed, inTray}
-use Rattle.migration.specs.Answers.{encoded, checked, answered}
+use Rattle.meaning.specs.Calls.{Outcome, refused, accepted, checkSchema, checkMapping, checkInstance, pathQuestion, pathChain, deltaTables, sigmaTables, piTables, sheetOf, checkPushed, checkRaw, pushedToRaw, rawToPushed, inTray}
+use Rattle.migration.specs.Answers.{encoded, checked}
 
 -- below 2^32 a result; else the number in bits 8 to 15, the place in bits 0 to 7
 abbrev pub decoded : ℕ → Outcome ℕ
@@ -21,7 +21,7 @@ pub record ExportsSay : Type 0 where
   pub check-schema : (s : List ℕ) → Says (checked (checkSchema s))
   pub check-mapping : (s t f : List ℕ) → Says (checked (checkMapping s t f))
   pub check-instance : (s i : List ℕ) → Says (checked (checkInstance s i))
-  pub same-path : (s p q : List ℕ) → Says (answered (samePath s p q))
+  pub first-path : (s p tray : List ℕ) → Says (inTray tray (pathQuestion s p) .answer)
   pub path-chain : (s p q tray : List ℕ) → Says (inTray tray (pathChain s p q) .answer)
   pub delta : (s t f j tray : List ℕ) → Says (inTray tray (sheetOf (deltaTables s t f j)) .answer)
   pub sigma : (s t f i tray : List ℕ) → Says (inTray tray (sheetOf (sigmaTables s t f i)) .answer)
@@ -32,6 +32,10 @@ pub record ExportsSay : Type 0 where
   pub raw-to-pushed : (s t f i j k tray : List ℕ) → Says (inTray tray (rawToPushed s t f i j k) .answer)
 
 -- ---- byte lengths
+
+-- 8 bits, and 15 edges of 5
+abbrev pub maxPathBytes : ℕ
+maxPathBytes = 11
 
 -- 512 rows of 9 bits
 abbrev pub maxMatchingBytes : ℕ
@@ -46,6 +50,7 @@ abbrev pub Within : ℕ → Outcome (List ℕ) → Type 0
 Within n o = (bytes : List ℕ) → o ≡ accepted bytes → length bytes ≤ n
 
 pub record ResultsWithin : Type 0 where
+  pub first-path : (s p : List ℕ) → Within maxPathBytes (pathQuestion s p)
   pub path-chain : (s p q : List ℕ) → Within maxChainBytes (pathChain s p q)
   pub delta : (s t f j : List ℕ) → Within maxInstanceBytes (sheetOf (deltaTables s t f j))
   pub sigma : (s t f i : List ℕ) → Within maxInstanceBytes (sheetOf (sigmaTables s t f i))

@@ -8,6 +8,7 @@ use Rattle.meaning.specs.Evenness.{even}
 use Rattle.meaning.specs.Sigma.{sigma}
 use Rattle.meaning.specs.Calls as meaning
 use Rattle.meaning.specs.Calls.{Outcome, accepted, _>>=_, at, ensure, ensureFits, Migration}
+use Rattle.meaning.specs.Category.{listedCategory}
 use Rattle.mapping.specs.Judged.{Schemas}
 use Rattle.instance.specs.declared.Instance.{Instance}
 use Rattle.instance.specs.Decoded.{tablesOf, Limits}
@@ -32,14 +33,14 @@ runInput M i = do
 -- Sigma of the run, and its size
 abbrev pub pushedRun : RunInput → Outcome meaning.Migrated
 pushedRun y = do
-  P ← ensureFits (sigma (y .m .S) (y .m .T) (y .m .F) (y .run))
+  P ← ensureFits (sigma (listedCategory (y .m .S)) (listedCategory (y .m .T)) (y .m .F) (y .run))
   accepted (record { schema = y .m .T; tables = P })
 
 -- the test of evenness, then Sigma
 abbrev pub evenlyPushed : Outcome RunInput → Outcome meaning.Migrated
 evenlyPushed X = do
   y ← X
-  _ ← ensure (even (y .m .S) (y .m .T) (y .m .F)) 12
+  _ ← ensure (even (listedCategory (y .m .S)) (listedCategory (y .m .T)) (y .m .F)) 12
   pushedRun y
 
 -- ---- in working arrays: the run's links and values

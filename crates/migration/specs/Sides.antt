@@ -10,7 +10,8 @@ use Rattle.meaning.specs.Delta.{delta}
 use Rattle.meaning.specs.Sigma.{sigma}
 use Rattle.meaning.specs.Calls as meaning
 use Rattle.meaning.specs.Calls.{Outcome, accepted, _>>=_, at, ensure, ensureFits, Migration}
-use Rattle.schema.specs.Decoded.{schemaOf}
+use Rattle.meaning.specs.Category.{listedCategory}
+use Rattle.schema.specs.Decoded.{categoryOf}
 use Rattle.mapping.specs.Decoded.{mappingOf}
 use Rattle.instance.specs.Decoded.{tablesOf, Limits, RoomFor}
 use Rattle.instance.specs.Tested.{Accepted}
@@ -31,19 +32,19 @@ inputs M i j = do
   m ← M
   I ← at 4 (judgeInstance (m .S) i)
   J ← at 5 (judgeInstance (m .T) j)
-  _ ← ensure (even (m .S) (m .T) (m .F)) 12
+  _ ← ensure (even (listedCategory (m .S)) (listedCategory (m .T)) (m .F)) 12
   accepted (record { m = m; run = I; book = J })
 
 -- 15 of either migrated table
 abbrev pub sized : Inputs → Outcome meaning.Sides
 sized y = do
-  P ← ensureFits (sigma (y .m .S) (y .m .T) (y .m .F) (y .run))
+  P ← ensureFits (sigma (listedCategory (y .m .S)) (listedCategory (y .m .T)) (y .m .F) (y .run))
   D ← ensureFits (delta (y .m .S) (y .m .F) (y .book))
   accepted (record { m = y .m; run = y .run; book = y .book; pushed = P; pulled = D })
 
 -- both sides of accepted inputs
 abbrev pub sidesOf : Inputs → meaning.Sides
-sidesOf y = record { m = y .m; run = y .run; book = y .book; pushed = sigma (y .m .S) (y .m .T) (y .m .F) (y .run); pulled = delta (y .m .S) (y .m .F) (y .book) }
+sidesOf y = record { m = y .m; run = y .run; book = y .book; pushed = sigma (listedCategory (y .m .S)) (listedCategory (y .m .T)) (y .m .F) (y .run); pulled = delta (y .m .S) (y .m .F) (y .book) }
 
 -- ---- in working arrays: the run's links and values, and the book's
 
@@ -61,7 +62,7 @@ pub record Migratable (x : Sides) (links values links′ values′ : List ℕ) :
   pub book-limits : Limits (x .opened .target) (x .book)
   pub run : Accepted (x .opened .source) (x .run) links values
   pub book : Accepted (x .opened .target) (x .book) links′ values′
-  pub is-even : even (schemaOf (x .opened .source)) (schemaOf (x .opened .target)) (mappingOf (x .opened .source) (x .opened .mapping)) ≡ true
+  pub is-even : even (categoryOf (x .opened .source)) (categoryOf (x .opened .target)) (mappingOf (x .opened .source) (x .opened .mapping)) ≡ true
 
 pub record SidesSay (o : Opened) (x : Sides) (links values links′ values′ : List ℕ) (X : Outcome Inputs) : Type 0 where
   pub says : outcomeOf (x .refusal) (inputsOf x links values links′ values′) ≡ X

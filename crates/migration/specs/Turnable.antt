@@ -8,6 +8,7 @@ use Rattle.meaning.specs.Formats as formats
 use Rattle.meaning.specs.Views.{mappingOf, instanceOf}
 use Rattle.meaning.specs.Sigma.{sigma}
 use Rattle.meaning.specs.Calls.{Outcome, accepted, _>>=_, Migration}
+use Rattle.meaning.specs.Category.{listedCategory}
 use Rattle.schema.specs.Decoded.{frontOf}
 use Rattle.instance.specs.Decoded.{Limits}
 use Rattle.matching.specs.Compared.{partnersOf}
@@ -40,7 +41,7 @@ abbrev pub runOf : Turnable → formats.Instance
 runOf z = record { counts = z .counts; links = []; values = [] }
 
 abbrev pub pushedOf : Turnable → formats.Instance
-pushedOf z = sigma (z .m .S) (z .m .T) (z .m .F) (runOf z)
+pushedOf z = sigma (listedCategory (z .m .S)) (listedCategory (z .m .T)) (z .m .F) (runOf z)
 
 -- a list turned to the other side
 abbrev pub turnedList : Side → Turnable → List ℕ

@@ -1,5 +1,4 @@
-// The checks of schemas, mappings, instances and matchings, and the path question.
-use crate::Equality;
+// The checks of schemas, mappings, instances and matchings.
 use crate::Refusal;
 use crate::Verdict;
 use crate::matchings::Side;
@@ -8,18 +7,16 @@ use instance::Instance;
 use instance::has_few_columns;
 use instance::judge_instance;
 use mapping::judge_mapping;
-use paths::equal;
 use paths::path_table;
 use schema::Schema;
-use schema::judge_path;
 use schema::judge_schema;
 ghost use mathlib.Core.Path.{_≡_};
 ghost use mathlib.Core.Bool.{true};
-ghost use Rattle.meaning.specs.Calls.{checkSchema, checkMapping, checkInstance, samePath};
+ghost use Rattle.meaning.specs.Calls.{checkSchema, checkMapping, checkInstance};
 ghost use Rattle.schema.specs.Decoded.{schemaOf};
 ghost use Rattle.schema.specs.Judged.{Sound};
 ghost use Rattle.instance.specs.Decoded.{hasFewColumns};
-ghost use Rattle.migration.specs.Answers.{checkedSheet, outcomeOf, verdictOf, equalityOf, PushedChecked, RawChecked};
+ghost use Rattle.migration.specs.Answers.{checkedSheet, outcomeOf, verdictOf, PushedChecked, RawChecked};
 
 // The verdict of a refusal, which may be none.
 fn verdict(refusal: Refusal) -> Verdict
@@ -110,26 +107,6 @@ pub fn check_instance(s: &[u8], i: &[u8]) -> Verdict
     };
     let second = instance_refusal(schema, i);
     verdict(first.or(second.number, second.place))
-}
-
-// Whether the paths p and q of the schema s are equal. Refuses with 1 to 6 at the place of s, and with 1, 2 and 4 at those of p and q.
-pub fn same_path(s: &[u8], p: &[u8], q: &[u8]) -> Equality
-    ensures { λ r. ⌜ equalityOf r ≡ samePath (now (s .entry)) (now (p .entry)) (now (q .entry)) ⌝ }
-{
-    let schema = judge_schema(s);
-    let graph = schema.graph;
-    let a = judge_path(graph, p);
-    let b = judge_path(graph, q);
-    let refusal = Refusal::first(schema.fault, a.fault, b.fault);
-    if refusal.number == 0 {
-        let left = a.path;
-        let right = b.path;
-        if equal(schema, left, right) {
-            return Equality::Equal;
-        }
-        return Equality::Unequal;
-    }
-    Equality::Refused(refusal)
 }
 
 // Whether list is a matching of the pushed side: from Sigma of the instance run of s along the mapping f from s to t to the instance book of t.

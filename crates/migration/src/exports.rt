@@ -1,6 +1,5 @@
-// The calls for C, a slice as its address and its length. An answer is one number: a result as itself (0 for an accepted check, 1 or 0 for
-// equal or unequal paths, a byte length, which is 0 where there is no chain), a refusal as 2^32 + 256 * number + place.
-use crate::Equality;
+// The calls for C, a slice as its address and its length. An answer is one number: a result as itself (0 for an accepted check, a byte length,
+// which is 0 where there is no chain), a refusal as 2^32 + 256 * number + place.
 use crate::Explained;
 use crate::Refusal;
 use crate::Verdict;
@@ -10,16 +9,16 @@ use crate::checks::check_mapping;
 use crate::checks::check_pushed;
 use crate::checks::check_raw;
 use crate::checks::check_schema;
-use crate::checks::same_path;
 use crate::explain::path_chain;
+use crate::first::first_path;
 use crate::joins::pi;
 use crate::migrate::delta;
 use crate::migrate::sigma;
 use crate::turnings::pushed_to_raw;
 use crate::turnings::raw_to_pushed;
 ghost use mathlib.Core.Path.{_≡_};
-ghost use Rattle.meaning.specs.Calls.{refused, checkSchema, checkMapping, checkInstance, samePath, pathChain, deltaTables, sigmaTables, piTables, sheetOf, checkPushed, checkRaw, pushedToRaw, rawToPushed, inTray};
-ghost use Rattle.migration.specs.Answers.{verdictOf, equalityOf, explainedOf, writtenOf, encoded, checked, answered, returned};
+ghost use Rattle.meaning.specs.Calls.{refused, checkSchema, checkMapping, checkInstance, pathQuestion, pathChain, deltaTables, sigmaTables, piTables, sheetOf, checkPushed, checkRaw, pushedToRaw, rawToPushed, inTray};
+ghost use Rattle.migration.specs.Answers.{verdictOf, explainedOf, writtenOf, encoded, checked, returned};
 
 // A refusal as a number.
 fn refusal_number(refusal: Refusal) -> u64
@@ -35,17 +34,6 @@ fn verdict_number(verdict: Verdict) -> u64
     match verdict {
         Verdict::Accepted => 0,
         Verdict::Refused(refusal) => refusal_number(refusal),
-    }
-}
-
-// The answer to the path question as a number.
-fn equality_number(equality: Equality) -> u64
-    ensures { λ r. ⌜ r ≡ encoded (answered (equalityOf equality)) ⌝ }
-{
-    match equality {
-        Equality::Equal => 1,
-        Equality::Unequal => 0,
-        Equality::Refused(refusal) => refusal_number(refusal),
     }
 }
 
@@ -92,10 +80,10 @@ pub extern "C" fn migration_check_instance(s: &[u8], i: &[u8]) -> u64
 }
 
 #[no_mangle]
-pub extern "C" fn migration_same_path(s: &[u8], p: &[u8], q: &[u8]) -> u64
-    ensures { λ r. ⌜ r ≡ encoded (answered (samePath (now (s .entry)) (now (p .entry)) (now (q .entry)))) ⌝ }
+pub extern "C" fn migration_first_path(s: &[u8], p: &[u8], tray: &mut [u8]) -> u64
+    ensures { λ r. ⌜ (r, now (tray .exit)) ≡ returned (inTray (now (tray .entry)) (pathQuestion (now (s .entry)) (now (p .entry)))) ⌝ }
 {
-    equality_number(same_path(s, p, q))
+    written_number(first_path(s, p, &mut *tray))
 }
 
 #[no_mangle]

@@ -20,7 +20,7 @@ ghost use mathlib.Core.Bool.{true, cond};
 ghost use lib.ListN.{length};
 ghost use Rattle.meaning.specs.Calls.{piTables, sheetOf, inTray};
 ghost use Rattle.meaning.specs.Pi.{isBijective, hasFewComponents};
-ghost use Rattle.schema.specs.Decoded.{schemaOf};
+ghost use Rattle.schema.specs.Decoded.{schemaOf, categoryOf};
 ghost use Rattle.schema.specs.Judged.{Sound};
 ghost use Rattle.mapping.specs.Decoded.{mappingOf};
 ghost use Rattle.instance.specs.Decoded.{RoomFor, hasFewColumns};
@@ -42,7 +42,7 @@ pub struct Joined {
 // 13 where the attribute mapping is not a bijection, 14 where a table has too many components, else 0.
 fn unjoinable(opened: Opened, k: Components) -> u8
     requires { ⌜ Ready opened × AllComponents (opened .source) (opened .target) (opened .mapping) (opened .target .graph .nodes) k ⌝ }
-    ensures { λ r. ⌜ r ≡ cond (isBijective (schemaOf (opened .target)) (mappingOf (opened .source) (opened .mapping))) (cond (hasFewComponents (schemaOf (opened .source)) (schemaOf (opened .target)) (mappingOf (opened .source) (opened .mapping))) 0 14) 13 ⌝ }
+    ensures { λ r. ⌜ r ≡ cond (isBijective (schemaOf (opened .target)) (mappingOf (opened .source) (opened .mapping))) (cond (hasFewComponents (categoryOf (opened .source)) (categoryOf (opened .target)) (mappingOf (opened .source) (opened .mapping))) 0 14) 13 ⌝ }
 {
     let target = opened.target;
     if is_bijective(opened.source, target, opened.mapping) {

@@ -3,6 +3,7 @@
 mod checks;
 mod explain;
 pub mod exports;
+mod first;
 mod joins;
 mod matchings;
 mod migrate;
@@ -17,8 +18,8 @@ pub use checks::check_mapping;
 pub use checks::check_pushed;
 pub use checks::check_raw;
 pub use checks::check_schema;
-pub use checks::same_path;
 pub use explain::path_chain;
+pub use first::first_path;
 pub use joins::pi;
 pub use migrate::delta;
 pub use migrate::sigma;
@@ -82,13 +83,6 @@ impl Refusal {
 // The answer of a check.
 pub enum Verdict {
     Accepted,
-    Refused(Refusal),
-}
-
-// The answer to the path question.
-pub enum Equality {
-    Equal,
-    Unequal,
     Refused(Refusal),
 }
 

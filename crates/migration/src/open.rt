@@ -12,7 +12,7 @@ ghost use mathlib.Core.Path.{_≡_};
 ghost use mathlib.Core.Bool.{cond};
 ghost use Rattle.meaning.specs.Evenness.{even};
 ghost use Rattle.meaning.specs.Calls.{migration};
-ghost use Rattle.schema.specs.Decoded.{schemaOf};
+ghost use Rattle.schema.specs.Decoded.{categoryOf};
 ghost use Rattle.mapping.specs.Decoded.{mappingOf};
 ghost use Rattle.migration.specs.Opened.{haveFewColumns, Opens, Ready};
 
@@ -66,7 +66,7 @@ pub(crate) fn have_few_columns(opened: Opened) -> bool
 // 12 where the mapping is not even, else 0.
 pub(crate) fn uneven(opened: Opened) -> u8
     requires { ⌜ Ready opened ⌝ }
-    ensures { λ r. ⌜ r ≡ cond (even (schemaOf (opened .source)) (schemaOf (opened .target)) (mappingOf (opened .source) (opened .mapping))) 0 12 ⌝ }
+    ensures { λ r. ⌜ r ≡ cond (even (categoryOf (opened .source)) (categoryOf (opened .target)) (mappingOf (opened .source) (opened .mapping))) 0 12 ⌝ }
 {
     if is_even(
         opened.source,

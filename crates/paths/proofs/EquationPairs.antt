@@ -16,10 +16,9 @@ use Rattle.theory.proofs.Order.{mem-position, mem-getD}
 use Rattle.meaning.specs.Lists.{upto}
 use Rattle.meaning.specs.Schema as meaning
 use Rattle.meaning.specs.Schema.{target, joins, end}
-use Rattle.meaning.specs.PathEquality.{classes, classOf}
 use Rattle.meaning.specs.Views as views
 use Rattle.meaning.proofs.Lists.{concatMap-in, concatMap-of, in-upto, of-upto, upto-length}
-use Rattle.agreement.specs.Paths.{WellFormed, pathCount, numberOf, pathAt}
+use Rattle.agreement.specs.Paths.{WellFormed, pathCount, numberOf, pathAt, classNumber}
 use Rattle.agreement.proofs.Paths.{schema-is, edgeLists-each, path-short, allPaths-each, number-in, number-path, number-at}
 use Rattle.schema.specs.declared.Path.{Path}
 use Rattle.schema.specs.declared.Schema.{Schema}
@@ -33,7 +32,7 @@ use Rattle.paths.specs.PathNumbers.{startOf, endOf}
 use Rattle.paths.specs.Table.{Filled, Index, IsTable}
 use Rattle.paths.specs.PathWalks.{walkFrom}
 use Rattle.paths.specs.Chains.{Small}
-use Rattle.paths.specs.Classes.{joinNumbers, followerPairs, pairsAt, equationPairs, schemaPairs, Joinable, classNumber}
+use Rattle.paths.specs.Classes.{joinNumbers, followerPairs, pairsAt, equationPairs, schemaPairs, Joinable, classAt}
 use Rattle.paths.proofs.Filling.{end-low}
 use Rattle.paths.proofs.PathWalks.{Reached, walk-reaches, Numbered, walk-number}
 use Rattle.paths.proofs.PathBlocks.{behind}
@@ -205,25 +204,24 @@ module _ (t : Schema) (p : Paths) (sound : Sound t) (table : IsTable (graphOf (t
       (sym (tabulate-getD (t .equations) f (f 0) (i .0) h) ∙ i .2) (step-here (i .0) h n before after)
 
   -- the class numbers at the front of the array
-  pub class-column : {l : List ℕ} → l ≡ joinNumbers (schemaPairs t p) (upto 256) → Filled 256 (classNumber S) (p .count) l
+  pub class-column : {l : List ℕ} → l ≡ joinNumbers (schemaPairs t p) (upto 256) → Filled 256 (classAt S) (p .count) l
   class-column {l} e = record {
-    each = λ i h. sym (getD-take (p .count) l i 0 h) ∙ ap (λ (m : List ℕ). getD m i 0) front;
+    each = λ i h. sym (getD-take (p .count) l i 0 h) ∙ ap (λ (m : List ℕ). getD m i 0) front ∙ numbers-classes S well (schemaPairs t p) pairs-linked pairs-complete i (rw (← table .counted) h);
     long = ap length e ∙ numbers-length (schemaPairs t p) (upto 256) ∙ upto-length 256;
   }
     where
       below : (z : ℕ × ℕ) → List·Memᴰ z (schemaPairs t p) → Below (p .count) z
       below z m = rw (table .counted) (pairs-linked z m .below)
 
-      front : take (p .count) l ≡ classes S
+      front : take (p .count) l ≡ joinNumbers (schemaPairs t p) (upto (pathCount G))
       front =
           ap (take (p .count)) e ∙ numbers-take (p .count) (schemaPairs t p) (upto 256) below ∙ ap (joinNumbers (schemaPairs t p)) (take-upto (p .count) 256 (table .few) ∙ ap upto (table .counted))
-          ∙ numbers-classes S well (schemaPairs t p) pairs-linked pairs-complete
 
   -- ---- a judged path's number, found in the table
   pub path-numbered : {w : Path} → SoundPath (t .graph) w → Numbered G (sound .acyclic) table-index (pathOf w) (walkFrom (p .first) (p .rank) (w .start) (pathOf w .edges))
   path-numbered {w} h = walk-number G (sound .acyclic) table-index (pathOf w) (h .path)
 
   -- and its class
-  pub path-class : {w : Path} {x : ℕ} → Filled 256 (classNumber S) (p .count) (p .class) → SoundPath (t .graph) w → x ≡ walkFrom (p .first) (p .rank) (w .start) (pathOf w .edges)
-      → getD (p .class) x 0 ≡ classOf S (pathOf w)
-  path-class {w} {x} c h e = let n = path-numbered h in c .each x (omega (arith, n .below, table .counted)) ∙ ap (classNumber S) (e ∙ n .number)
+  pub path-class : {w : Path} {x : ℕ} → Filled 256 (classAt S) (p .count) (p .class) → SoundPath (t .graph) w → x ≡ walkFrom (p .first) (p .rank) (w .start) (pathOf w .edges)
+      → getD (p .class) x 0 ≡ classNumber S (pathOf w)
+  path-class {w} {x} c h e = let n = path-numbered h in c .each x (omega (arith, n .below, table .counted)) ∙ ap (classNumber S) (ap (pathAt G) e ∙ n .is)

@@ -9,12 +9,12 @@ use lib.Seq.{ext-getD, getD-take, length-take-le}
 use Rattle.theory.specs.Schema.{endpoint, IsPath}
 use Rattle.meaning.specs.Lists.{upto}
 use Rattle.meaning.specs.Schema.{path, Equation, Schema, target}
-use Rattle.meaning.specs.PathEquality.{joinClasses, classes}
 use Rattle.meaning.specs.Views.{schemaOf}
 use Rattle.meaning.proofs.Lists.{upto-length, upto-getD}
 use Rattle.agreement.specs.Paths.{WellFormed, pathCount, numberOf}
-use Rattle.agreement.proofs.Classes.{join-length, join-keeps, join-joins, EqualNumbers, Classified, classified-start, classified-join, classes-one}
-use Rattle.paths.specs.Classes.{joinNumbers}
+use Rattle.agreement.proofs.Classes.{EqualNumbers, Classified, classes-one}
+use Rattle.paths.specs.Classes.{joinClasses, joinNumbers, classAt}
+use Rattle.paths.proofs.JoinedClasses.{join-length, join-keeps, join-joins, classified-start, classified-join}
 
 abbrev joinPair : ℕ × ℕ → List ℕ → List ℕ
 joinPair z l = joinClasses (getD l (z .0) 0) (getD l (z .1) 0) l
@@ -87,8 +87,8 @@ module _ (S : Schema) where
   pub numbers-classes : WellFormed S → (xs : List (ℕ × ℕ)) → ((z : ℕ × ℕ) → List·Memᴰ z xs → Linked S z)
       → ((n : ℕ) (before after : List ℕ) (q : Equation) → List·Memᴰ q (S .equations) → endpoint (target (S .graph)) n before ≡ q .left .start
       → IsPath (schemaOf S) n (before ++ (q .left .edges ++ after)) → (z : ℕ × ℕ) × List·Memᴰ z xs × IsStep n before after q z)
-      → joinNumbers xs (upto (pathCount (S .graph))) ≡ classes S
-  numbers-classes wf xs sound complete = classes-one S wf (joinNumbers xs own) (record {
+      → (i : ℕ) → i < pathCount (S .graph) → getD (joinNumbers xs (upto (pathCount (S .graph)))) i 0 ≡ classAt S i
+  numbers-classes wf xs sound complete = classes-one S wf (record {
     classified = numbers-classified xs own sound (classified-start S);
     joined = λ n before after q m e h.
         let t = complete n before after q m e h in

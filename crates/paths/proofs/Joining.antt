@@ -11,12 +11,11 @@ use lib.Seq.{ext-getD}
 use lib.Dec.{eqb}
 use borrow.Author.Tests.{eqb-true}
 use Rattle.meaning.specs.Lists.{range, upto, concatMap}
-use Rattle.meaning.specs.PathEquality.{joinClasses}
 use Rattle.meaning.proofs.Tabulate.{rest-more, rest-done}
 use Rattle.meaning.proofs.Lists.{upto-length, upto-getD}
 use Rattle.paths.specs.Table.{Filled}
 use Rattle.paths.specs.Chains.{NextAt}
-use Rattle.paths.specs.Classes.{renamedTo, joinNumbers, runPairs, followerPairs, RunsIn}
+use Rattle.paths.specs.Classes.{joinClasses, renamedTo, joinNumbers, runPairs, followerPairs, RunsIn}
 
 -- ---- a list mapped in place: its first i elements are
 pub front : (ℕ → ℕ) → ℕ → List ℕ → List ℕ

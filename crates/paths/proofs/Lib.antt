@@ -7,6 +7,7 @@ pub mod Joining
 pub mod PathWalks
 pub mod PathBlocks
 pub mod FollowerPairs
+pub mod JoinedClasses
 pub mod JoinedNumbers
 pub mod EquationPairs
 pub mod TablePaths

@@ -10,8 +10,7 @@ use borrow.Author.Tests.{ltb-true, eqb-true}
 use Rattle.theory.specs.Schema.{endpoint}
 use Rattle.meaning.specs.Schema.{Graph, Path, path, source, target, joins, isPath, hasLoop}
 use Rattle.meaning.proofs.Tabulate.{and-both}
-use Rattle.agreement.specs.Paths.{pathCount, numberOf, pathAt}
-use Rattle.agreement.proofs.Paths.{number-at}
+use Rattle.agreement.specs.Paths.{pathCount, pathAt}
 use Rattle.paths.specs.PathNumbers.{startOf, endOf, firstOf, rankOf}
 use Rattle.paths.specs.Table.{Index}
 use Rattle.paths.specs.PathWalks.{walkFrom, WalkIn}
@@ -56,7 +55,7 @@ module _ (G : Graph) (acyclic : hasLoop G ≡ false) {first rank : List ℕ} (in
   pub record Numbered (p : Path) (r : ℕ) : Type 0 where
     pub within : WalkIn first rank (p .start) (p .edges)
     pub below : r < pathCount G
-    pub number : r ≡ numberOf G p
+    pub is : pathAt G r ≡ p
 
   pub walk-number : (p : Path) → isPath G p ≡ true → Numbered p (walkFrom first rank (p .start) (p .edges))
   walk-number p h =
@@ -67,5 +66,5 @@ module _ (G : Graph) (acyclic : hasLoop G ≡ false) {first rank : List ℕ} (in
       record {
         within = w .within;
         below = w .below;
-        number = sym (number-at G (walkFrom first rank (p .start) (p .edges)) (w .below)) ∙ ap (numberOf G) (w .is ∙ ap (λ (q : Path). path (q .start) (q .edges ++ p .edges)) t);
+        is = w .is ∙ ap (λ (q : Path). path (q .start) (q .edges ++ p .edges)) t;
       }

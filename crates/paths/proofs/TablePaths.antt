@@ -13,12 +13,11 @@ use Rattle.theory.proofs.Order.{sorted-one}
 use Rattle.meaning.specs.Lists.{filter}
 use Rattle.meaning.specs.Schema as meaning
 use Rattle.meaning.specs.Schema.{Path, allPaths, pathsFrom}
-use Rattle.meaning.specs.PathEquality.{classOf, classes}
 use Rattle.meaning.specs.Views as views
 use Rattle.meaning.proofs.Lists.{filter-in, filter-of, sorted-filter}
-use Rattle.agreement.specs.Paths.{WellFormed, pathCount, numberOf, pathAt, Before}
-use Rattle.agreement.proofs.Paths.{number-in, number-path, number-at, pathAt-in, allPaths-each, pathsFrom-each, before-asymmetric, allPaths-sorted, pathsFrom-sorted}
-use Rattle.agreement.proofs.Classes.{classes-is}
+use Rattle.agreement.specs.Paths.{WellFormed, pathCount, numberOf, pathAt, classNumber, Before}
+use Rattle.agreement.proofs.Paths.{number-in, number-path, pathAt-in, allPaths-each, pathsFrom-each, before-asymmetric, allPaths-sorted, pathsFrom-sorted}
+use Rattle.agreement.proofs.Classes.{class-least}
 use Rattle.schema.specs.declared.Schema.{Schema}
 use Rattle.schema.specs.Decoded.{graphOf, schemaOf}
 use Rattle.schema.specs.Judged.{Sound}
@@ -58,12 +57,12 @@ module _ {s : Schema} {p : Paths} (sound : Sound s) (t : IsPaths (schemaOf s) p)
   counted : (i : ℕ) → i < p .count → i < pathCount G
   counted i l = let e = t .table .counted in omega arith
 
-  pub class-at : (i : ℕ) → i < p .count → getD (p .class) i 0 ≡ classOf (schemaOf s) (pathAt G i)
-  class-at i l = t .class .each i l ∙ ap (λ (n : ℕ). getD (classes (schemaOf s)) n 0) (sym (number-at G i (counted i l)))
+  pub class-at : (i : ℕ) → i < p .count → getD (p .class) i 0 ≡ classNumber (schemaOf s) (pathAt G i)
+  class-at i l = t .class .each i l
 
   pub class-low : (i : ℕ) → i < p .count → getD (p .class) i 0 < 256
   class-low i l =
-      let a = classes-is (schemaOf s) (formed sound) .classified .lower i (counted i l) in
+      let a = class-least (schemaOf s) (formed sound) i (counted i l) in
       let b = t .table .few in
       omega (arith, t .class .each i l)
 

@@ -1,14 +1,14 @@
 -- Class numbers joined pair by pair, and the pairs of paths that an equation makes equal, by their numbers in the table.
-use Prim.Native.Nat.{ℕ, zero, suc, _+_, _-_, _<_, _≤_}
+use Prim.Native.Nat.{ℕ, zero, suc, _+_, _-_, _<_, _≤_, min, max}
 use mathlib.Core.Path.{_≡_}
 use mathlib.Core.Bool.{cond}
-use mathlib.Core.List.{List, [], _∷_, _++_}
+use mathlib.Core.List.{List, [], _∷_, _++_, map}
 use lib.ListN.{getD}
 use lib.Dec.{eqb}
 use Rattle.theory.specs.Numbering.{tabulate}
 use Rattle.meaning.specs.Lists.{upto, concatMap}
 use Rattle.meaning.specs.Schema as meaning
-use Rattle.meaning.specs.PathEquality.{joinClasses, classes}
+use Rattle.agreement.specs.Paths.{pathAt, classNumber}
 use Rattle.schema.specs.declared.Path.{Path}
 use Rattle.schema.specs.declared.Schema.{Schema}
 use Rattle.schema.specs.Decoded.{pathOf, noPath}
@@ -18,6 +18,10 @@ use Rattle.paths.specs.PathWalks.{walkFrom, WalkIn}
 
 abbrev pub renamedTo : ℕ → ℕ → ℕ → ℕ
 renamedTo old new x = cond (eqb x old) new x
+
+-- classes a and b joined under the lower number
+abbrev pub joinClasses : ℕ → ℕ → List ℕ → List ℕ
+joinClasses a b l = map (renamedTo (max a b) (min a b)) l
 
 abbrev pub joinNumbers : List (ℕ × ℕ) → List ℕ → List ℕ
 joinNumbers [] l = l
@@ -62,10 +66,10 @@ abbrev pub schemaPairs : Schema → Paths → List (ℕ × ℕ)
 schemaPairs t p = concatMap (λ q. equationPairs p (t .graph .nodes) (getD (t .left) q noPath) (getD (t .right) q noPath)) (upto (t .equations))
 
 -- the class number of path i
-abbrev pub classNumber : meaning.Schema → ℕ → ℕ
-classNumber S i = getD (classes S) i 0
+abbrev pub classAt : meaning.Schema → ℕ → ℕ
+classAt S i = classNumber S (pathAt (S .graph) i)
 
 -- the table of a schema's paths, with their classes
 pub record IsPaths (S : meaning.Schema) (p : Paths) : Type 0 where
   pub table : IsTable (S .graph) p
-  pub class : Filled 256 (classNumber S) (p .count) (p .class)
+  pub class : Filled 256 (classAt S) (p .count) (p .class)

@@ -12,12 +12,11 @@ ghost use Prim.Native.Nat.{_+_, _<_, _≤_};
 ghost use lib.ListN.{getD, length};
 ghost use lib.Dec.{eqb};
 ghost use Rattle.meaning.specs.Lists.{upto};
-ghost use Rattle.meaning.specs.PathEquality.{joinClasses};
 ghost use Rattle.schema.specs.Decoded.{graphOf, schemaOf};
 ghost use Rattle.schema.specs.Judged.{Sound};
 ghost use Rattle.paths.specs.Table.{Filled, IsTable};
 ghost use Rattle.paths.specs.Chains.{Chained};
-ghost use Rattle.paths.specs.Classes.{renamedTo, joinNumbers, runPairs, followerPairs, RunsIn, equationPairs, Joinable, classNumber};
+ghost use Rattle.paths.specs.Classes.{renamedTo, joinClasses, joinNumbers, runPairs, followerPairs, RunsIn, equationPairs, Joinable, classAt};
 
 // The class number of each path.
 pub struct Classes {
@@ -138,7 +137,7 @@ fn join_equation<'a>(
 // The class number of each path of a table. Where there are no equations, the table is not copied.
 pub fn class_numbers(t: Schema, p: Paths) -> Classes
     requires { ⌜ Sound t × IsTable (graphOf (t .graph)) p ⌝ }
-    ensures { λ r. ⌜ Filled 256 (classNumber (schemaOf t)) (p .count) (r .of) ⌝ }
+    ensures { λ r. ⌜ Filled 256 (classAt (schemaOf t)) (p .count) (r .of) ⌝ }
 {
     let n = t.equations;
     if n == 0 {

@@ -1,15 +1,12 @@
-// Paths of a schema: the table of all of them, with their classes, and the path question.
+// Paths of a schema: the table of all of them, with their classes.
 pub mod chains;
 pub mod classes;
 pub mod table;
 pub mod walk;
 
-use schema::Path;
 use schema::Schema;
-ghost use mathlib.Core.Path.{_≡_};
-ghost use Rattle.meaning.specs.PathEquality.{equal as equalPaths};
-ghost use Rattle.schema.specs.Decoded.{pathOf, schemaOf};
-ghost use Rattle.schema.specs.Judged.{Sound, SoundPath};
+ghost use Rattle.schema.specs.Decoded.{schemaOf};
+ghost use Rattle.schema.specs.Judged.{Sound};
 ghost use Rattle.paths.specs.Classes.{IsPaths};
 
 // All paths of a graph, numbered in the paper's order. For each path: its start, its end and its length; the number of the path without its
@@ -33,15 +30,4 @@ pub fn path_table(t: Schema) -> Paths
     ensures { λ r. ⌜ IsPaths (schemaOf t) r ⌝ }
 {
     table::fill(t)
-}
-
-// The path question: whether two paths of a judged schema are equal.
-pub fn equal(t: Schema, a: Path, b: Path) -> bool
-    requires { ⌜ Sound t × SoundPath (t .graph) a × SoundPath (t .graph) b ⌝ }
-    ensures { λ r. ⌜ r ≡ equalPaths (schemaOf t) (pathOf a) (pathOf b) ⌝ }
-{
-    let p = path_table(t);
-    let x = walk::path_number(p, a);
-    let y = walk::path_number(p, b);
-    classes::same_class(&p.class, x, y)
 }

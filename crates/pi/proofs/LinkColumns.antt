@@ -9,7 +9,7 @@ use Rattle.meaning.specs.Schema.{path, source, target}
 use Rattle.meaning.specs.Pi.{componentAt, noComponent, pi}
 use Rattle.meaning.proofs.Tabulate.{tabulate-same, tabulate-upto}
 use Rattle.schema.specs.declared.Schema.{Schema}
-use Rattle.schema.specs.Decoded.{graphOf, schemaOf}
+use Rattle.schema.specs.Decoded.{graphOf, categoryOf}
 use Rattle.schema.proofs.GraphEdges.{edges-count, source-at, target-at}
 use Rattle.paths.specs.declared.Paths.{Paths}
 use Rattle.instance.specs.declared.Instance.{Instance}
@@ -28,7 +28,7 @@ use Rattle.pi.proofs.ListedRows.{map-places, row-is, entry-is}
 module _ {s t : Schema} {paths : Paths} {f : Mapping} {k : Components} {run : Instance} {links counts table : List ℕ} (M : Mapped s t paths f) (K : Gathered s t f k) (L : FamiliesUpto s t f run links (t .graph .nodes) counts table) where
   -- the row at the end of e from d to h of a row at d
   abbrev restrictTo : ℕ → ℕ → ℕ → List ℕ → List ℕ
-  restrictTo d h e rs = map (λ x. getD rs (componentAt (schemaOf t) (componentsOf s t f d) (x .node) (path d (e ∷ x .first .edges))) 0) (componentsOf s t f h)
+  restrictTo d h e rs = map (λ x. getD rs (componentAt (categoryOf t) (componentsOf s t f d) (x .node) (path d (e ∷ x .first .edges))) 0) (componentsOf s t f h)
 
   -- where it stands
   abbrev linkTo : ℕ → ℕ → ℕ → List ℕ → ℕ
@@ -52,7 +52,7 @@ module _ {s t : Schema} {paths : Paths} {f : Mapping} {k : Components} {run : In
       restricted =
           ap (λ (n : ℕ). tabulate n taken) (width-is K there (there-in M K e l))
           ∙ tabulate-same (length (componentsOf s t f there)) (λ j m. entry-is M K L here (here-in M K e l) x h (placeAfter (t .graph) paths k e j) ∙ ap (λ (p : ℕ). getD (family x) p 0) (place-after M K e l j m))
-          ∙ map-places (λ c. getD (family x) (componentAt (schemaOf t) (componentsOf s t f here) (c .node) (path here (e ∷ c .first .edges))) 0) noComponent (componentsOf s t f there)
+          ∙ map-places (λ c. getD (family x) (componentAt (categoryOf t) (componentsOf s t f here) (c .node) (path here (e ∷ c .first .edges))) 0) noComponent (componentsOf s t f there)
 
       placed : (w : List ℕ) → rowPlace table (tableRows counts (k .count) there .first) (getD counts there 0) w (getD (k .count) there 0) ≡ position (sameList w) (familiesOf s t f run links there)
       placed w =
@@ -72,7 +72,7 @@ module _ {s t : Schema} {paths : Paths} {f : Mapping} {k : Components} {run : In
         ∙ map-places (linkTo here there e) [] (familiesOf s t f run links here)
         ∙ ap₂ (λ (d h : ℕ). map (linkTo d h e) (familiesOf s t f run links d)) (sym (source-at (t .graph .edges) (t .graph .source) (t .graph .target) e l)) (sym (target-at (t .graph .edges) (t .graph .source) (t .graph .target) e l))
 
-  pub links-are : (values : List ℕ) → tabulate (t .graph .edges) (λ e. tabulate (rowsOf (t .graph .source) counts e) (linkRow (t .graph) paths k counts table e)) ≡ pi (schemaOf s) (schemaOf t) (mappingOf s f) (tablesOf s run links values) .links
+  pub links-are : (values : List ℕ) → tabulate (t .graph .edges) (λ e. tabulate (rowsOf (t .graph .source) counts e) (linkRow (t .graph) paths k counts table e)) ≡ pi (categoryOf s) (categoryOf t) (mappingOf s f) (tablesOf s run links values) .links
   links-are values =
       tabulate-upto (t .graph .edges) column-is
       ∙ ap (λ (n : ℕ). map (λ e. map (linkTo (source (graphOf (t .graph)) e) (target (graphOf (t .graph)) e) e) (familiesOf s t f run links (source (graphOf (t .graph)) e))) (upto n)) (sym (edges-count (t .graph .edges) (t .graph .source) (t .graph .target)))

@@ -18,7 +18,7 @@ use Rattle.meaning.proofs.Lists.{and-intro}
 use Rattle.agreement.specs.Paths.{pathCount, numberOf, pathAt}
 use Rattle.agreement.proofs.Paths.{number-in, number-path, path-iff, path-short, allPaths-each, pathsFrom-each}
 use Rattle.schema.specs.declared.Schema.{Schema}
-use Rattle.schema.specs.Decoded.{graphOf, schemaOf}
+use Rattle.schema.specs.Decoded.{graphOf, schemaOf, categoryOf}
 use Rattle.schema.proofs.GraphEdges.{edges-count, source-at, target-at}
 use Rattle.schema.proofs.SoundSchema.{source-in, target-in}
 use Rattle.paths.specs.declared.Paths.{Paths}
@@ -133,13 +133,13 @@ module _ {s t : Schema} {paths : Paths} {f : Mapping} {k : Components} (M : Mapp
     number-below = let c = M .is-paths .table .counted in omega (arith, after, reached es (numbered M K there there-in j h .joined) .below)
 
     -- the place is that of edge e followed by the component's first path
-    pub place-after : placeAfter (t .graph) paths k e j ≡ componentAt (schemaOf t) (componentsOf s t f here) (componentOf s t f there j .node) (path here (e ∷ es))
+    pub place-after : placeAfter (t .graph) paths k e j ≡ componentAt (categoryOf t) (componentsOf s t f here) (componentOf s t f there j .node) (path here (e ∷ es))
     place-after =
         let r = reached es (numbered M K there there-in j h .joined) in
         let z : pathAt H (pathAfter (t .graph) paths k e j) ≡ path here (e ∷ es) = ap (pathAt H) after ∙ r .is ∙ ap (λ (p : Path). path (p .start) (p .edges ++ (e ∷ es))) (trivial-at H (M .target .acyclic) here here-in) in
         place-is (K .all .each here here-in) (few-at K here here-in) (M .target) (M .is-paths) (getD (k .node) (64 * there + j) 0) (pathAfter (t .graph) paths k e j) number-below
-        ∙ ap (componentAt (schemaOf t) (componentsOf s t f here) (getD (k .node) (64 * there + j) 0)) z
-        ∙ ap (λ (c : ℕ). componentAt (schemaOf t) (componentsOf s t f here) c (path here (e ∷ es))) (K .all .each there there-in .node j h (omega (arith, few-at K there there-in)))
+        ∙ ap (componentAt (categoryOf t) (componentsOf s t f here) (getD (k .node) (64 * there + j) 0)) z
+        ∙ ap (λ (c : ℕ). componentAt (categoryOf t) (componentsOf s t f here) c (path here (e ∷ es))) (K .all .each there there-in .node j h (omega (arith, few-at K there there-in)))
 
   pub traced : Traced (t .graph) paths k e
   traced = record {

@@ -18,7 +18,7 @@ use Rattle.meaning.specs.Pi.{isBijective, componentAt, valueAt, pi}
 use Rattle.meaning.proofs.Tabulate.{tabulate-same, tabulate-upto}
 use Rattle.meaning.proofs.Lists.{upto-all, filter-of, position-in}
 use Rattle.schema.specs.declared.Schema.{Schema}
-use Rattle.schema.specs.Decoded.{graphOf, schemaOf, frontOf}
+use Rattle.schema.specs.Decoded.{graphOf, schemaOf, frontOf, categoryOf}
 use Rattle.schema.proofs.SoundSchema.{home-in}
 use Rattle.paths.specs.declared.Paths.{Paths}
 use Rattle.paths.proofs.PathNumbers.{trivial-at, trivial-count}
@@ -62,7 +62,7 @@ module _ {s t : Schema} {paths : Paths} {f : Mapping} {k : Components} {run : In
 
   -- the value of attribute b of T in a row at d, by attribute a of S at node c
   abbrev valueFrom : ℕ → ℕ → ℕ → List ℕ → ℕ
-  valueFrom a c d rs = value I a (getD rs (componentAt (schemaOf t) (componentsOf s t f d) c (path d [])) 0)
+  valueFrom a c d rs = value I a (getD rs (componentAt (categoryOf t) (componentsOf s t f d) c (path d [])) 0)
 
   module _ (b : ℕ) (l : b < t .attributes) where
     abbrev a : ℕ
@@ -77,11 +77,11 @@ module _ {s t : Schema} {paths : Paths} {f : Mapping} {k : Components} {run : In
     d-in : d < t .graph .nodes
     d-in = home-in t (M .target) b l
 
-    place-of : valuePlace s t paths k a b ≡ componentAt (schemaOf t) (componentsOf s t f d) (attributeNode s a) (path d [])
+    place-of : valuePlace s t paths k a b ≡ componentAt (categoryOf t) (componentsOf s t f d) (attributeNode s a) (path d [])
     place-of =
         let n : d < paths .count = omega (arith, d-in, trivial-count (graphOf (t .graph)) (M .target .acyclic), M .is-paths .table .counted) in
         place-is (K .all .each d d-in) (few-at K d d-in) (M .target) (M .is-paths) (attributeNode s a) d n
-        ∙ ap (componentAt (schemaOf t) (componentsOf s t f d) (attributeNode s a)) (trivial-at (graphOf (t .graph)) (M .target .acyclic) d d-in)
+        ∙ ap (componentAt (categoryOf t) (componentsOf s t f d) (attributeNode s a)) (trivial-at (graphOf (t .graph)) (M .target .acyclic) d d-in)
 
     abbrev family : ℕ → List ℕ
     family x = getD (familiesOf s t f run links d) x []
@@ -89,9 +89,9 @@ module _ {s t : Schema} {paths : Paths} {f : Mapping} {k : Components} {run : In
     read : (x : ℕ) → x < familyCount s t f run links d → valueRow s t paths k (f .attribute) (run .counts) counts table values b x ≡ valueFrom a (attributeNode s a) d (family x)
     read x h =
         ap (entryOf values (512 * a) (rowsOf (s .node) (run .counts) a)) (entry-is M K L d d-in x h (valuePlace s t paths k a b) ∙ ap (λ (p : ℕ). getD (family x) p 0) place-of)
-        ∙ value-is s run links values a (getD (family x) (componentAt (schemaOf t) (componentsOf s t f d) (attributeNode s a) (path d [])) 0) a-in
+        ∙ value-is s run links values a (getD (family x) (componentAt (categoryOf t) (componentsOf s t f d) (attributeNode s a) (path d [])) 0) a-in
 
-    column-is : tabulate (rowsOf (t .node) counts b) (valueRow s t paths k (f .attribute) (run .counts) counts table values b) ≡ map (valueAt (schemaOf s) (schemaOf t) (mappingOf s f) I b) (familiesOf s t f run links (attributeAt (schemaOf t) b .node))
+    column-is : tabulate (rowsOf (t .node) counts b) (valueRow s t paths k (f .attribute) (run .counts) counts table values b) ≡ map (valueAt (categoryOf s) (categoryOf t) (mappingOf s f) I b) (familiesOf s t f run links (attributeAt (schemaOf t) b .node))
     column-is =
         let n = L .count d d-in in
         tabulate-same (rowsOf (t .node) counts b) (λ x h. read x (rw n at h))
@@ -100,10 +100,10 @@ module _ {s t : Schema} {paths : Paths} {f : Mapping} {k : Components} {run : In
         ∙ ap (λ (c : ℕ). map (valueFrom a c d) (familiesOf s t f run links d)) (ap (λ (x : Attribute). x .node) (sym (attribute-is s a a-in)))
         ∙ ap (λ (x : Attribute). map (valueFrom a (attributeAt (schemaOf s) a .node) (x .node)) (familiesOf s t f run links (x .node))) (sym (attribute-is t b l))
 
-  pub values-are : tabulate (t .attributes) (λ b. tabulate (rowsOf (t .node) counts b) (valueRow s t paths k (f .attribute) (run .counts) counts table values b)) ≡ pi (schemaOf s) (schemaOf t) (mappingOf s f) I .values
+  pub values-are : tabulate (t .attributes) (λ b. tabulate (rowsOf (t .node) counts b) (valueRow s t paths k (f .attribute) (run .counts) counts table values b)) ≡ pi (categoryOf s) (categoryOf t) (mappingOf s f) I .values
   values-are =
       tabulate-upto (t .attributes) column-is
-      ∙ ap (λ (n : ℕ). map (λ b. map (valueAt (schemaOf s) (schemaOf t) (mappingOf s f) I b) (familiesOf s t f run links (attributeAt (schemaOf t) b .node))) (upto n)) (sym (attributes-count t))
+      ∙ ap (λ (n : ℕ). map (λ b. map (valueAt (categoryOf s) (categoryOf t) (mappingOf s f) I b) (familiesOf s t f run links (attributeAt (schemaOf t) b .node))) (upto n)) (sym (attributes-count t))
 
 -- ---- values stored row by row
 module _ (s t : Schema) (paths : Paths) (k : Components) (image run counts rows values : List ℕ) (b : ℕ) where

@@ -12,25 +12,26 @@ use Rattle.agreement.proofs.Paths.{schema-iff, path-iff, paths-listed}
 use Rattle.agreement.proofs.Loops.{loop-iff, height-iff, height-one}
 use Rattle.agreement.proofs.Steps.{steps-agree}
 use Rattle.agreement.proofs.FirstChains.{chains-agree, first-chain-one}
-use Rattle.agreement.proofs.Mappings.{schema-well-formed, images-iff, keeps-iff}
+use Rattle.agreement.proofs.Categories.{equal-paths-iff, schema-well-formed, listed-category}
+use Rattle.agreement.proofs.Mappings.{images-iff, keeps-iff}
 use Rattle.agreement.proofs.Ranges.{zero-in}
 use Rattle.agreement.proofs.Instances.{links-iff, values-iff, equations-iff}
 use Rattle.agreement.proofs.Tests.{refused-iff, accepted-iff, refused-in}
 use Rattle.agreement.proofs.Refusals.{crowd-iff, off-scale-iff}
-use Rattle.agreement.proofs.Outcomes.{checkSchema-decided, checkMapping-decided, checkInstance-decided, samePath-decided, pathChain-answer, delta-answer, sigma-answer, pi-answer, checkPushed-decided, checkRaw-decided, pushedToRaw-answer, rawToPushed-answer, refused-tray, accepted-tray}
+use Rattle.agreement.proofs.Outcomes.{checkSchema-decided, checkMapping-decided, checkInstance-decided, pathQuestion-answer, pathChain-answer, delta-answer, sigma-answer, pi-answer, checkPushed-decided, checkRaw-decided, pushedToRaw-answer, rawToPushed-answer, refused-tray, accepted-tray}
 use Rattle.agreement.proofs.Valid.{mapping-valid, instance-accepted-iff}
 use Rattle.agreement.proofs.Evenness.{even-iff}
 use Rattle.agreement.proofs.Sigma.{sigma-never-overfull}
 use Rattle.agreement.proofs.Bijections.{bijective-iff}
 use Rattle.agreement.proofs.Pi.{pi-tables, pi-single}
-use Rattle.agreement.proofs.AcceptedSheets.{path-answers, chain-answers, delta-answers, sigma-answers, pi-answers}
+use Rattle.agreement.proofs.AcceptedSheets.{path-answer, path-answers, chain-answers, delta-answers, sigma-answers, pi-answers}
 use Rattle.agreement.proofs.Matchings.{judgeMatching-iff}
 use Rattle.agreement.proofs.Agrees.{schema-agrees, delta-agrees, sigma-agrees, pi-agrees}
 use Rattle.agreement.proofs.Demand3.{demand3, provided-iff, unprovided-refused, case3-provided}
 use Rattle.agreement.proofs.Framing.{push-frames}
 use Rattle.migration.proofs.Demand3.{calls-demand3, calls-refuse, meanings-meet}
 use Rattle.migration.proofs.Encoding.{exports-say, results-within}
-use Rattle.promises.specs.Promises.{Demand-1, Demand-2, Demand-3, C-11, C-12, Program, Header}
+use Rattle.promises.specs.Promises.{Demand-1, Demand-2, Demand-3, C-11, C-12, C-14, Program, Header}
 
 pub demand-1 : Demand-1
 demand-1 = record {
@@ -40,7 +41,6 @@ demand-1 = record {
   check-schema = checkSchema-decided;
   check-mapping = checkMapping-decided;
   check-instance = checkInstance-decided;
-  same-path = samePath-decided;
   delta = λ s t f j tray. delta-answer tray s t f j;
   sigma = λ s t f i tray. sigma-answer tray s t f i;
   pi = λ s t f i tray. pi-answer tray s t f i;
@@ -55,7 +55,6 @@ demand-1 = record {
 pub demand-2 : Demand-2
 demand-2 = record {
   schema-agrees = schema-agrees;
-  path-answers = path-answers;
   test-4 = schema-iff;
   test-4-path = path-iff;
   test-5 = loop-iff;
@@ -63,8 +62,8 @@ demand-2 = record {
   heights-one = height-one;
   test-6 = λ S wf. (paths-listed S wf, (leb-true (length (allPaths (S .graph))) maxPaths, le-leb (length (allPaths (S .graph))) maxPaths));
   refusal-6 = crowd-iff;
-  test-7 = λ S T s t f {F} e. images-iff S T F s t (mapping-sized S f e);
-  test-8 = λ S T s t f {F} e. keeps-iff S T F s t (mapping-sized S f e);
+  test-7 = λ S T s t f {F} e. images-iff S T F s t (mapping-sized (S .schema) f e);
+  test-8 = λ S T s t f {F} e. keeps-iff S T F s t (mapping-sized (S .schema) f e);
   mapping-accepted = mapping-valid;
   equal-images = λ v. image-chain (v .is);
   test-9 = λ S i {I} e. links-iff kinds S I (instance-shaped S i e);
@@ -109,6 +108,15 @@ c-11 = record {
 
 pub c-12 : C-12
 c-12 = record { clock = λ v. (λ is. is, λ is. is); others-have-zero = zero-in; refusal-10 = off-scale-iff }
+
+pub c-14 : C-14
+c-14 = record {
+  first-path = λ s p tray. pathQuestion-answer tray s p;
+  path-answer = path-answer;
+  path-answers = path-answers;
+  presented = listed-category;
+  equality = equal-paths-iff;
+}
 
 pub program : Program
 program = record { push-frames = push-frames }

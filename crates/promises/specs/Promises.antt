@@ -1,7 +1,7 @@
 -- The promises of the three demands, of the requests of document 02, of the program and of the C header, by demand and sentence; proofs/Promises.antt
 -- proves each under its name.
 -- A call is said by its meaning, a function of lists of numbers (`meaning` specs/Calls.antt). That the code answers as the meaning does is each public
--- call's contract, one equation with no `requires` (`migration` src/checks.rt, explain.rt, migrate.rt, turnings.rt, printing.rt and exports.rt). The other terms
+-- call's contract, one equation with no `requires` (`migration` src/checks.rt, first.rt, explain.rt, migrate.rt, joins.rt, turnings.rt, printing.rt and exports.rt). The other terms
 -- stand in the specs/ of `theory` (source document 000), `meaning` (documents 01 and 02), `agreement` and `migration`.
 -- By definition alone, in `meaning` specs/: the fields of sheets, refusals 1, 2 and 3, the text of push. The runs to check against: `meaning` proofs/Cases.antt.
 use Prim.Native.Nat.{ℕ, _<_, _≤_}
@@ -22,6 +22,7 @@ use Rattle.theory.specs.Matching.{IsMatching}
 use Rattle.meaning.specs.Lists.{sumOf}
 use Rattle.meaning.specs.Schema.{Path, path, Schema, isPath, allPaths, hasLoop, height}
 use Rattle.meaning.specs.PathChain.{Step}
+use Rattle.meaning.specs.Category.{Category, equal, listedCategory}
 use Rattle.meaning.specs.Sheet.{faulty, sound, onSheet}
 use Rattle.meaning.specs.Formats.{Mapping, Instance, readMapping, readInstance, maxPaths, maxRows, kinds, instanceSheet, matchingSheet}
 use Rattle.meaning.specs.Views.{Shaped, schemaOf, nodeImage, edgeImage, mappingOf, count, instanceOf}
@@ -30,14 +31,15 @@ use Rattle.meaning.specs.Evenness.{even}
 use Rattle.meaning.specs.Sigma.{sigma}
 use Rattle.meaning.specs.Pi.{isBijective, pi}
 use Rattle.meaning.specs.Matching.{judgeMatching}
-use Rattle.meaning.specs.Calls.{Outcome, refused, accepted, ensureFits, checkSchema, checkMapping, checkInstance, samePath, pathChain, Migrated, deltaTables, sigmaTables, piTables, sheetOf, sides, rawSheet, pushedSheet, checkPushed, checkRaw, pushedToRaw, rawToPushed, inTray}
+use Rattle.meaning.specs.Calls.{Outcome, refused, accepted, ensureFits, checkSchema, checkMapping, checkInstance, pathQuestion, pathChain, Migrated, deltaTables, sigmaTables, piTables, sheetOf, sides, rawSheet, pushedSheet, checkPushed, checkRaw, pushedToRaw, rawToPushed, inTray}
 use Rattle.meaning.specs.Program.{frames, push}
-use Rattle.agreement.specs.Paths.{WellFormed, SameStarts, Loop, IsHeight, ListsPaths, Crowded}
+use Rattle.agreement.specs.Paths.{WellFormed, SameStarts, Loop, IsHeight, EqualPaths, ListsPaths, Crowded}
+use Rattle.agreement.specs.Categories.{IsCategory}
 use Rattle.agreement.specs.PathChains.{StepsAgree, ChainsAgree, IsFirstChain, ChainAnswers}
 use Rattle.agreement.specs.Tests.{Refusal, Tests, FailsAt, Pass, Decides}
-use Rattle.agreement.specs.CallTests.{checkSchemaTests, checkMappingTests, checkInstanceTests, samePathTests, pathChainTests, deltaTests, sigmaTests, piTests, pushedTests, rawTests, trayTests, sheetTests, Result}
+use Rattle.agreement.specs.CallTests.{checkSchemaTests, checkMappingTests, checkInstanceTests, pathQuestionTests, pathChainTests, deltaTests, sigmaTests, piTests, pushedTests, rawTests, trayTests, sheetTests, Result}
 use Rattle.agreement.specs.Valid.{ValidMapping, ValidInstance, InRange, ImagesFit, KeepsEquations, LinksIn, ValuesIn, OffScale, ObeysEquations}
-use Rattle.agreement.specs.Agrees.{SchemaAgrees, PathAnswers, Inputs, DeltaAgrees, DeltaAnswers, SigmaAgrees, SigmaAnswers, PiAgrees, PiAnswers}
+use Rattle.agreement.specs.Agrees.{SchemaAgrees, PathAnswer, PathAnswers, Inputs, DeltaAgrees, DeltaAnswers, SigmaAgrees, SigmaAnswers, PiAgrees, PiAnswers}
 use Rattle.agreement.specs.Demand3.{Accepts, meaningAnswers, Provided, Clauses, AllRefuse}
 use Rattle.migration.specs.Demand3.{Calls, MeetsContracts, answers, meaningCalls}
 use Rattle.migration.specs.Encoding.{ExportsSay, ResultsWithin}
@@ -56,7 +58,6 @@ pub record Demand-1 : Type 1 where
   pub check-schema : (s : List ℕ) → Decides (checkSchemaTests s) (checkSchema s)
   pub check-mapping : (s t f : List ℕ) → Decides (checkMappingTests s t f) (checkMapping s t f)
   pub check-instance : (s i : List ℕ) → Decides (checkInstanceTests s i) (checkInstance s i)
-  pub same-path : (s p q : List ℕ) → Decides (samePathTests s p q) (samePath s p q)
   pub delta : (s t f j tray : List ℕ) → Decides (sheetTests tray (deltaTests s t f j)) (inTray tray (sheetOf (deltaTables s t f j)) .answer)
   pub sigma : (s t f i tray : List ℕ) → Decides (sheetTests tray (sigmaTests s t f i)) (inTray tray (sheetOf (sigmaTables s t f i)) .answer)
   pub pi : (s t f i tray : List ℕ) → Decides (sheetTests tray (piTests s t f i)) (inTray tray (sheetOf (piTables s t f i)) .answer)
@@ -72,10 +73,8 @@ pub record Demand-1 : Type 1 where
 -- ---- Demand 2
 
 pub record Demand-2 : Type 1 where
-  -- "Path equality": of an accepted schema, with first paths and heights; and the answers of the path question
+  -- "Path equality": of an accepted schema, with first paths and heights; the answers of the path question are those of C-14
   pub schema-agrees : (s : List ℕ) {S : Schema} → judgeSchema s ≡ sound S → SchemaAgrees S
-  pub path-answers : (s p q : List ℕ) {S : Schema} {P Q : Path} → judgeSchema s ≡ sound S → judgePath (S .graph) p ≡ sound P → judgePath (S .graph) q ≡ sound Q
-      → PathAnswers s p q S P Q
   -- "the check of schemas": 4 is passed exactly by the theory's schemas whose equations have one start on both sides, and by the theory's paths
   pub test-4 : (S : Schema) → (isWellFormed S ≡ true) ↔ (IsSchema (schemaOf S) × SameStarts S)
   pub test-4-path : (S : Schema) → isWellFormed S ≡ true → (n : ℕ) (p : List ℕ) → (isPath (S .graph) (path n p) ≡ true) ↔ IsPath (schemaOf S) n p
@@ -86,13 +85,16 @@ pub record Demand-2 : Type 1 where
   -- 6: of a well-formed schema without a loop the list of all paths is complete, and 6 is given exactly where it is longer than 256
   pub test-6 : (S : Schema) → WellFormed S → ListsPaths S × ((hasFewPaths (S .graph) ≡ true) ↔ (length (allPaths (S .graph)) ≤ maxPaths))
   pub refusal-6 : (s : List ℕ) → (judgeSchema s ≡ faulty 6) ↔ ((S : Schema) × Crowded s S)
-  -- the check of "mappings": 7, then 8, of a sheet that reads as F; one that passes respects all path equalities, and not the equations alone
-  pub test-7 : (S T : Schema) → WellFormed S → WellFormed T → (f : List ℕ) {F : Mapping} → onSheet (readMapping S) f ≡ sound F → (imagesFit S T F ≡ true) ↔ ImagesFit (mappingOf S T F)
-  pub test-8 : (S T : Schema) → WellFormed S → WellFormed T → (f : List ℕ) {F : Mapping} → onSheet (readMapping S) f ≡ sound F
-      → imagesFit S T F ≡ true → (keepsEquations S T F ≡ true) ↔ KeepsEquations (mappingOf S T F)
-  pub mapping-accepted : (s t f : List ℕ) {S T : Schema} {F : Mapping} → judgeSchema s ≡ sound S → judgeSchema t ≡ sound T → judgeMapping S T f ≡ sound F → ValidMapping S T F
-  pub equal-images : {S T : Schema} {F : Mapping} → ValidMapping S T F → (n : ℕ) {p q : List ℕ} → Chain (schemaOf S) n p q → IsPath (schemaOf S) n p
-      → Chain (schemaOf T) (nodeImage F n) (theoryMapping.image (edgeImage F) p) (theoryMapping.image (edgeImage F) q)
+  -- the check of "mappings": 7, then 8, of a sheet that reads as F; one that passes respects all path equalities, and not the equations alone.
+  -- This and what follows from it holds in any category; that each well-formed schema without a loop presents one is `presented` of C-14
+  pub test-7 : (S T : Category) → IsCategory S → IsCategory T → (f : List ℕ) {F : Mapping} → onSheet (readMapping (S .schema)) f ≡ sound F
+      → (imagesFit (S .schema) (T .schema) F ≡ true) ↔ ImagesFit (mappingOf (S .schema) (T .schema) F)
+  pub test-8 : (S T : Category) → IsCategory S → IsCategory T → (f : List ℕ) {F : Mapping} → onSheet (readMapping (S .schema)) f ≡ sound F
+      → imagesFit (S .schema) (T .schema) F ≡ true → (keepsEquations S T F ≡ true) ↔ KeepsEquations (mappingOf (S .schema) (T .schema) F)
+  pub mapping-accepted : (s t f : List ℕ) {S T : Schema} {F : Mapping} → judgeSchema s ≡ sound S → judgeSchema t ≡ sound T → judgeMapping (listedCategory S) (listedCategory T) f ≡ sound F
+      → ValidMapping (listedCategory S) (listedCategory T) F
+  pub equal-images : {S T : Category} {F : Mapping} → ValidMapping S T F → (n : ℕ) {p q : List ℕ} → Chain (schemaOf (S .schema)) n p q → IsPath (schemaOf (S .schema)) n p
+      → Chain (schemaOf (T .schema)) (nodeImage F n) (theoryMapping.image (edgeImage F) p) (theoryMapping.image (edgeImage F) q)
   -- the check of "tables": 9, 10 and 11, of a sheet that reads as I; accepted are exactly the whole sheets of valid instances
   pub test-9 : (S : Schema) (i : List ℕ) {I : Instance} → onSheet (readInstance S) i ≡ sound I → (linksInRange S I ≡ true) ↔ LinksIn (schemaOf S) (instanceOf I)
   pub test-10 : (S : Schema) (i : List ℕ) {I : Instance} → onSheet (readInstance S) i ≡ sound I → (valuesInRange kinds S I ≡ true) ↔ ValuesIn kinds (schemaOf S) (instanceOf I)
@@ -106,19 +108,20 @@ pub record Demand-2 : Type 1 where
   -- no other tables are Sigma's or Pi's
   pub sigma-one : {F : theoryMapping.Mapping} → IsMapping F → Even F → {I P Q : theory.Instance ℕ} → IsSigma F I P → IsSigma F I Q → Alike (F .T) P Q
   pub pi-one : {F : theoryMapping.Mapping} {I P Q : theory.Instance ℕ} → IsMapping F → Bijective F → IsPi F I P → IsPi F I Q → Alike (F .T) P Q
-  pub pi-tables : {S T : Schema} {F : Mapping} → ValidMapping S T F → (I : Instance) → Bijective (mappingOf S T F)
-      → (J : Instance) → Shaped T J → IsPi (mappingOf S T F) (instanceOf I) (instanceOf J) → J ≡ pi S T F I
+  pub pi-tables : {S T : Category} {F : Mapping} → ValidMapping S T F → (I : Instance) → Bijective (mappingOf (S .schema) (T .schema) F)
+      → (J : Instance) → Shaped (T .schema) J → IsPi (mappingOf (S .schema) (T .schema) F) (instanceOf I) (instanceOf J) → J ≡ pi S T F I
   -- "Without components there is exactly 1 row"
-  pub pi-single : {S T : Schema} {F : Mapping} → ValidMapping S T F → (I : Instance) (d : ℕ) → d < T .graph .nodes
-      → ((k : ℕ × List ℕ) → IsComponent (mappingOf S T F) d k → ⊥) → count (pi S T F I) d ≡ 1
+  pub pi-single : {S T : Category} {F : Mapping} → ValidMapping S T F → (I : Instance) (d : ℕ) → d < T .schema .graph .nodes
+      → ((k : ℕ × List ℕ) → IsComponent (mappingOf (S .schema) (T .schema) F) d k → ⊥) → count (pi S T F I) d ≡ 1
   -- "nothing is refused outside the listed conditions": on accepted sheets, 15 of Delta, 12 of Sigma, 13, 14 and 15 of Pi
   pub delta-answers : (s t f j : List ℕ) {S T : Schema} {F : Mapping} {J : Instance} → Inputs s t f j S T T F J → DeltaAnswers s t f j (mappingOf S T F) (instanceOf J)
   pub sigma-answers : (s t f i : List ℕ) {S T : Schema} {F : Mapping} {I : Instance} → Inputs s t f i S T S F I → SigmaAnswers s t f i (mappingOf S T F)
   pub pi-answers : (s t f i : List ℕ) {S T : Schema} {F : Mapping} {I : Instance} → Inputs s t f i S T S F I → PiAnswers s t f i (mappingOf S T F) (instanceOf I)
   -- the tests 12 and 13 by themselves, and that Sigma is never overfull, in the matching calls too
-  pub test-12 : {S T : Schema} {F : Mapping} → ValidMapping S T F → (even S T F ≡ true) ↔ Even (mappingOf S T F)
-  pub test-13 : {S T : Schema} {F : Mapping} → ValidMapping S T F → (isBijective T F ≡ true) ↔ Bijective (mappingOf S T F)
-  pub sigma-fits : {S T : Schema} {F : Mapping} → ValidMapping S T F → Even (mappingOf S T F) → {I : Instance} → ValidInstance S I → ensureFits (sigma S T F I) ≡ accepted (sigma S T F I)
+  pub test-12 : {S T : Category} {F : Mapping} → ValidMapping S T F → (even S T F ≡ true) ↔ Even (mappingOf (S .schema) (T .schema) F)
+  pub test-13 : {S T : Category} {F : Mapping} → ValidMapping S T F → (isBijective (T .schema) F ≡ true) ↔ Bijective (mappingOf (S .schema) (T .schema) F)
+  pub sigma-fits : {S T : Category} {F : Mapping} → ValidMapping S T F → Even (mappingOf (S .schema) (T .schema) F) → {I : Instance} → ValidInstance (S .schema) I
+      → ensureFits (sigma S T F I) ≡ accepted (sigma S T F I)
   -- 17: "a list is a matching if it is the whole sheet of one"
   pub test-17 : (S : Schema) (A B : Instance) → Shaped S A → sumOf (B .counts) ≤ maxRows → (k : List ℕ) → Bytes k
       → ((l : List ℕ) × (judgeMatching S A B k ≡ sound l)) ↔ ((l : List ℕ) × IsMatching (schemaOf S) (instanceOf A) (instanceOf B) l × (k ≡ matchingSheet l))
@@ -167,6 +170,22 @@ pub record C-12 : Type 0 where
   -- "A kind now has a smallest value as well as a largest, and 10 is given below the one or above the other": exactly then, of a sheet that reads as
   -- an instance and passes 9
   pub refusal-10 : (S : Schema) (i : List ℕ) → (judgeInstance S i ≡ faulty 10) ↔ ((I : Instance) × OffScale S i I)
+
+-- ---- Document 02, C-14: the first path of a class
+
+pub record C-14 : Type 0 where
+  -- the order of refusals: the schema, the path, last 16; what a tray is left as is Demand-1's
+  pub first-path : (s p tray : List ℕ) → Decides (trayTests tray (pathQuestionTests s p)) (inTray tray (pathQuestion s p) .answer)
+  -- "The path question now takes one path and yields, as a path sheet, the first path equal to it in document 01's order"
+  pub path-answer : (s p : List ℕ) {S : Schema} {P : Path} → judgeSchema s ≡ sound S → judgePath (S .graph) p ≡ sound P → PathAnswer s p S P
+  -- "two paths are equal by document 01's chains exactly when these answers are the same"; and "none" of C-11 is given exactly when they are not
+  pub path-answers : (s p q : List ℕ) {S : Schema} {P Q : Path} → judgeSchema s ≡ sound S → judgePath (S .graph) p ≡ sound P → judgePath (S .graph) q ≡ sound Q
+      → PathAnswers s p q S P Q
+  -- "Everything that relied on the yes or no (mapping check, evenness, components) uses the new answer": these take a category, which tells of equality
+  -- the first paths alone (`meaning` specs/Category.antt); by them two paths are found equal exactly where a chain joins them
+  pub presented : (S : Schema) → WellFormed S → IsCategory (listedCategory S)
+  pub equality : {C : Category} → IsCategory C → (p q : Path) → IsPath (schemaOf (C .schema)) (p .start) (p .edges) → IsPath (schemaOf (C .schema)) (q .start) (q .edges)
+      → (equal C p q ≡ true) ↔ EqualPaths (C .schema) p q
 
 -- ---- The push program
 

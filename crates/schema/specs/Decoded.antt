@@ -9,6 +9,7 @@ use Rattle.bits.specs.Field as bits
 use Rattle.theory.specs.Numbering.{tabulate}
 use Rattle.meaning.specs.Sheet.{Read, fails, reads, Judged, faulty, sound, judged}
 use Rattle.meaning.specs.Schema as meaning
+use Rattle.meaning.specs.Category.{Category, listedCategory}
 use Rattle.meaning.specs.Formats as formats
 use Rattle.meaning.specs.Formats.{readPath, readEquation, readBody}
 use Rattle.meaning.proofs.Formats.{edgesIn}
@@ -54,6 +55,10 @@ schemaOf t = record {
   attributes = tabulate (t .attributes) (λ i. record { node = getD (t .node) i 0; kind = getD (t .kind) i 0 });
   equations = equationsOf (t .equations) (t .left) (t .right);
 }
+
+-- the category that it presents
+abbrev pub categoryOf : Schema → Category
+categoryOf t = listedCategory (schemaOf t)
 
 -- the number with which the sheet is sent back, or what it says
 abbrev pub judgedSchema : Schema → Judged meaning.Schema

@@ -17,19 +17,21 @@ use Rattle.theory.proofs.Schema.{path-end}
 use Rattle.theory.proofs.Numbering.{tabulate-length, tabulate-getD}
 use Rattle.meaning.specs.Lists.{upto, concatMap, consIf}
 use Rattle.meaning.specs.Schema as meaning
-use Rattle.meaning.specs.Schema.{Path, path, source, target, end, joins, attributeAt}
+use Rattle.meaning.specs.Schema.{Path, source, target, end, joins, attributeAt}
 use Rattle.meaning.specs.Formats as formats
 use Rattle.meaning.specs.Views.{nodeImage, count, column, follow}
 use Rattle.meaning.specs.Views as views
 use Rattle.meaning.specs.Sigma.{fibreBelow, fibre, lift, linksAlong, attributeOver, firstRow}
 use Rattle.meaning.proofs.PathLevels.{concatMap-append}
 use Rattle.meaning.proofs.Tabulate.{tabulate-same, tabulate-upto, and-both}
+use Rattle.meaning.specs.Category.{Category}
 use Rattle.agreement.proofs.Paths.{path-iff, path-short}
 use Rattle.agreement.proofs.Mappings.{mapping-is}
 use Rattle.agreement.specs.Valid.{ValidMapping}
 use Rattle.agreement.proofs.Evenness.{even-iff, lift-is, attributeOver-is}
+use Rattle.agreement.proofs.Categories.{listed-category}
 use Rattle.schema.specs.declared.Schema.{Schema}
-use Rattle.schema.specs.Decoded.{graphOf, schemaOf, frontOf}
+use Rattle.schema.specs.Decoded.{graphOf, schemaOf, frontOf, categoryOf}
 use Rattle.schema.proofs.GraphEdges.{edges-count, source-at}
 use Rattle.schema.proofs.SoundSchema.{source-in, home-in}
 use Rattle.paths.specs.declared.Paths.{Paths}
@@ -99,6 +101,13 @@ module _ {s t : Schema} {source-paths target-paths : Paths} {f : Mapping} {run :
   abbrev T : meaning.Schema
   T = schemaOf t
 
+  -- the categories that they present
+  abbrev C : Category
+  C = categoryOf s
+
+  abbrev D : Category
+  D = categoryOf t
+
   abbrev F : formats.Mapping
   F = mappingOf s f
 
@@ -108,15 +117,15 @@ module _ {s t : Schema} {source-paths target-paths : Paths} {f : Mapping} {run :
   abbrev I : formats.Instance
   I = tablesOf s run links values
 
-  valid : ValidMapping S T F
+  valid : ValidMapping C D F
   valid =
-      let a = formed (P .schemas .source) in
-      let b = formed (P .schemas .target) in
+      let a = listed-category S (formed (P .schemas .source)) in
+      let b = listed-category T (formed (P .schemas .target)) in
       record {
-        S-formed = a;
-        T-formed = b;
+        S-is = a;
+        T-is = b;
         attributes = tabulate-length (s .attributes) (λ i. getD (f .attribute) i 0) ∙ sym (attributes-count s);
-        is = mapping-is S T F a b (tabulate-length (s .graph .nodes) (λ i. getD (f .node) i 0)) (P .mapping .fits) (P .mapping .keeps);
+        is = mapping-is C D F a b (tabulate-length (s .graph .nodes) (λ i. getD (f .node) i 0)) (P .mapping .fits) (P .mapping .keeps);
       }
 
   evenness : Even (views.mappingOf S T F)
@@ -127,7 +136,7 @@ module _ {s t : Schema} {source-paths target-paths : Paths} {f : Mapping} {run :
 
   -- ---- counts
   pub counts-are : {r : Instance} → Counted s t f run r → frontOf (t .graph .nodes) (r .counts) ≡ sigmaOf s t f run links values .counts
-  counts-are C = tabulate-upto (t .graph .nodes) (λ d l. C .counts .each d l ∙ sym (joined-length s f I (run .counts) count-is d))
+  counts-are R = tabulate-upto (t .graph .nodes) (λ d l. R .counts .each d l ∙ sym (joined-length s f I (run .counts) count-is d))
 
   -- ---- links: the lift of e at c, by its number
   module _ {lifts : List ℕ} (U : EdgeLifts s t source-paths f (16 * t .graph .edges) lifts) (e : ℕ) (b : e < t .graph .edges) (c : ℕ) (l : c < s .graph .nodes) (at : getD (f .node) c 0 ≡ getD (t .graph .source) e 0) where
@@ -135,7 +144,7 @@ module _ {s t : Schema} {source-paths target-paths : Paths} {f : Mapping} {run :
     number = getD lifts (16 * e + c) 0
 
     abbrev p : Path
-    p = lift S T F c e
+    p = lift C D F c e
 
     numbered : IsLift s t source-paths f c e number
     numbered =
@@ -162,7 +171,7 @@ module _ {s t : Schema} {source-paths target-paths : Paths} {f : Mapping} {run :
         let h : e < length (T .graph .edges) = rw (edges-count (t .graph .edges) (t .graph .source) (t .graph .target)) b in
         let u = lift-is valid evenness c l e (h, g, valid .is .T-is .tgt-in e h) in
         let w = u .1 .path in
-        let k : length (p .edges) < s .graph .nodes = path-short S (valid .S-formed) c (p .edges) w in
+        let k : length (p .edges) < s .graph .nodes = path-short S (formed (P .schemas .source)) c (p .edges) w in
         let z : getD (source-paths .length) number 0 ≡ length (p .edges) = table .columns .length .each number (i .below) ∙ ap (λ (q : Path). length (q .edges)) (i .path) in
         record {
           below = i .below;
@@ -217,22 +226,22 @@ module _ {s t : Schema} {source-paths target-paths : Paths} {f : Mapping} {run :
     abbrev liftRows : ℕ → ℕ → ℕ → ℕ
     liftRows e c = liftRow source-paths (f .node) (run .counts) links (getD lifts (16 * e + c) 0)
 
-    module _ {r : Instance} (C : Counted s t f run r) {l₀ followed : List ℕ} (W : JoinedColumns (f .node) (run .counts) (t .graph .source) (s .graph .nodes) (t .graph .edges) liftRows l₀ followed) where
-      links-at : (e : ℕ) → e < t .graph .edges → columnOf followed (512 * e) (rowsOf (t .graph .source) (r .counts) e) ≡ concatMap (λ c. linksAlong S F I c (lift S T F c e)) (fibre S F (source (T .graph) e))
+    module _ {r : Instance} (R : Counted s t f run r) {l₀ followed : List ℕ} (W : JoinedColumns (f .node) (run .counts) (t .graph .source) (s .graph .nodes) (t .graph .edges) liftRows l₀ followed) where
+      links-at : (e : ℕ) → e < t .graph .edges → columnOf followed (512 * e) (rowsOf (t .graph .source) (r .counts) e) ≡ concatMap (λ c. linksAlong S F I c (lift C D F c e)) (fibre S F (source (T .graph) e))
       links-at e b =
           let d = getD (t .graph .source) e 0 in
-          let k = C .counts .each d (source-in t (P .schemas .target) e b) in
+          let k = R .counts .each d (source-in t (P .schemas .target) e b) in
           ap (columnOf followed (512 * e)) k
-          ∙ joined-column F (f .node) (run .counts) d (λ c. linksAlong S F I c (lift S T F c e)) (512 * e) followed (s .graph .nodes) (node-at s f)
+          ∙ joined-column F (f .node) (run .counts) d (λ c. linksAlong S F I c (lift C D F c e)) (512 * e) followed (s .graph .nodes) (node-at s f)
           (λ c l at.
           tabulate-upto (getD (run .counts) c 0) (λ x h. W .each e b c l at x h ∙ lift-row U e b c l at long x h)
-          ∙ ap (λ (n : ℕ). map (λ x. firstRow F I (end G (lift S T F c e)) + follow I (lift S T F c e .edges) x) (upto n)) (sym (count-is c l)))
-          ∙ ap (λ (c : ℕ). concatMap (λ c. linksAlong S F I c (lift S T F c e)) (fibre S F c)) (sym (source-at (t .graph .edges) (t .graph .source) (t .graph .target) e b))
+          ∙ ap (λ (n : ℕ). map (λ x. firstRow F I (end G (lift C D F c e)) + follow I (lift C D F c e .edges) x) (upto n)) (sym (count-is c l)))
+          ∙ ap (λ (c : ℕ). concatMap (λ c. linksAlong S F I c (lift C D F c e)) (fibre S F c)) (sym (source-at (t .graph .edges) (t .graph .source) (t .graph .target) e b))
 
       pub links-are : columnsOf (t .graph .edges) (rowsOf (t .graph .source) (r .counts)) followed ≡ sigmaOf s t f run links values .links
       links-are =
           tabulate-upto (t .graph .edges) links-at
-          ∙ ap (λ (n : ℕ). map (λ e. concatMap (λ c. linksAlong S F I c (lift S T F c e)) (fibre S F (source (T .graph) e))) (upto n)) (sym (edges-count (t .graph .edges) (t .graph .source) (t .graph .target)))
+          ∙ ap (λ (n : ℕ). map (λ e. concatMap (λ c. linksAlong S F I c (lift C D F c e)) (fibre S F (source (T .graph) e))) (upto n)) (sym (edges-count (t .graph .edges) (t .graph .source) (t .graph .target)))
 
   -- ---- values: the attribute at c over b, and its column
   module _ (b : ℕ) (h : b < t .attributes) (c : ℕ) (l : c < s .graph .nodes) (at : getD (f .node) c 0 ≡ getD (t .node) b 0) where
@@ -258,11 +267,11 @@ module _ {s t : Schema} {source-paths target-paths : Paths} {f : Mapping} {run :
   pub all-over : AllOver s t f
   all-over = record { each = λ b h. record { each = λ c l at. subst (λ (n : ℕ). n < s .attributes) (attribute-over s f c b) (over b h c l at .inside) } }
 
-  module _ {r : Instance} (C : Counted s t f run r) {l₀ copied : List ℕ} (W : JoinedColumns (f .node) (run .counts) (t .node) (s .graph .nodes) (t .attributes) (valueOver s f values) l₀ copied) where
+  module _ {r : Instance} (R : Counted s t f run r) {l₀ copied : List ℕ} (W : JoinedColumns (f .node) (run .counts) (t .node) (s .graph .nodes) (t .attributes) (valueOver s f values) l₀ copied) where
     values-at : (b : ℕ) → b < t .attributes → columnOf copied (512 * b) (rowsOf (t .node) (r .counts) b) ≡ concatMap (λ c. column I (attributeOver S F c b)) (fibre S F (attributeAt T b .node))
     values-at b h =
         let d = getD (t .node) b 0 in
-        let k = C .counts .each d (home-in t (P .schemas .target) b h) in
+        let k = R .counts .each d (home-in t (P .schemas .target) b h) in
         ap (columnOf copied (512 * b)) k
         ∙ joined-column F (f .node) (run .counts) d (λ c. column I (attributeOver S F c b)) (512 * b) copied (s .graph .nodes) (node-at s f)
         (λ c l at. tabulate-same (getD (run .counts) c 0) (W .each b h c l at) ∙ column-is b h c l at)

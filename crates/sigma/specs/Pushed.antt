@@ -9,7 +9,7 @@ use Rattle.meaning.specs.Judge.{linksInRange}
 use Rattle.meaning.specs.Evenness.{even}
 use Rattle.meaning.specs.Sigma.{sigma}
 use Rattle.schema.specs.declared.Schema.{Schema}
-use Rattle.schema.specs.Decoded.{schemaOf}
+use Rattle.schema.specs.Decoded.{schemaOf, categoryOf}
 use Rattle.paths.specs.declared.Paths.{Paths}
 use Rattle.instance.specs.declared.Instance.{Instance}
 use Rattle.instance.specs.Decoded.{tablesOf, Limits}
@@ -40,13 +40,13 @@ pub record AllOver (s t : Schema) (f : Mapping) : Type 0 where
 pub record Pushable (s t : Schema) (source-paths target-paths : Paths) (f : Mapping) (run : Instance) (links values : List ℕ) : Type 0 where
   pub schemas : Schemas s t source-paths target-paths
   pub mapping : Sound s t f
-  pub is-even : even (schemaOf s) (schemaOf t) (mappingOf s f) ≡ true
+  pub is-even : even (categoryOf s) (categoryOf t) (mappingOf s f) ≡ true
   pub limits : Limits s run
   pub links-in : linksInRange (schemaOf s) (tablesOf s run links values) ≡ true
 
 -- Sigma of the tables of a run
 abbrev pub sigmaOf : Schema → Schema → Mapping → Instance → List ℕ → List ℕ → meaning.Instance
-sigmaOf s t f run links values = sigma (schemaOf s) (schemaOf t) (mappingOf s f) (tablesOf s run links values)
+sigmaOf s t f run links values = sigma (categoryOf s) (categoryOf t) (mappingOf s f) (tablesOf s run links values)
 
 -- Sigma's tables stand in working arrays
 pub record Pushed (s t : Schema) (f : Mapping) (run : Instance) (links values : List ℕ) (r : Instance) (followed copied : List ℕ) : Type 0 where

@@ -1,6 +1,7 @@
 //! The sheets that are measured.
 
-use migration::MOST_INSTANCE_BYTES;
+use migration::{MOST_INSTANCE_BYTES, MOST_PATH_BYTES};
+use reference::paths::all_paths;
 use reference::plain::*;
 use vectors::build::*;
 use vectors::call::{Call, Case};
@@ -35,15 +36,15 @@ fn joined(rows: usize) -> Case {
     Case::new(format!("join.{rows}"), Call::Pi, sheets).with_tray(MOST_INSTANCE_BYTES)
 }
 
-/// The longest sheets, the schemas that cost most to refuse or to accept, and the
-/// longest chains.
+/// The longest sheets, the schemas that cost most to refuse or to accept, with their last
+/// path, and the longest chains.
 fn worst() -> Vec<Case> {
     let wide = longest().into_iter().find(|case| case.name == "the longest instance");
     let wide = Case { name: "worst.longest_instance".into(), ..wide.expect("the longest") };
-    let trivial = path(0, &[]).to_sheet();
     let ask = |name: &str, schema: Schema| {
-        let sheets = vec![schema.to_sheet(), trivial.clone(), trivial.clone()];
-        Case::new(format!("worst.{name}"), Call::SamePath, sheets)
+        let last = all_paths(&schema).pop().expect("a path");
+        let sheets = vec![schema.to_sheet(), last.to_sheet()];
+        Case::new(format!("worst.{name}"), Call::FirstPath, sheets).with_tray(MOST_PATH_BYTES)
     };
     let check = |name: &str, schema: Schema| {
         Case::new(format!("worst.{name}"), Call::CheckSchema, vec![schema.to_sheet()])

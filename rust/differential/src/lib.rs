@@ -143,7 +143,7 @@ pub fn call(call: Call, sheets: &[Vec<u8>], tray: &mut [u8]) -> Result<usize, Re
         (Call::CheckSchema, [s]) => check_schema(s).map(|()| 0),
         (Call::CheckMapping, [s, t, f]) => check_mapping(s, t, f).map(|()| 0),
         (Call::CheckInstance, [s, i]) => check_instance(s, i).map(|()| 0),
-        (Call::SamePath, [s, p, q]) => same_path(s, p, q).map(usize::from),
+        (Call::FirstPath, [s, p]) => first_path_into(s, p, tray),
         (Call::Delta, [s, t, f, j]) => delta_into(s, t, f, j, tray),
         (Call::Sigma, [s, t, f, i]) => sigma_into(s, t, f, i, tray),
         (Call::Pi, [s, t, f, i]) => pi_into(s, t, f, i, tray),

@@ -23,7 +23,8 @@ fn sheets(call: Call) -> &'static [&'static str] {
         Call::CheckSchema => &["s"],
         Call::CheckMapping => &["s", "t", "f"],
         Call::CheckInstance => &["s", "i"],
-        Call::SamePath | Call::PathChain => &["s", "p", "q"],
+        Call::FirstPath => &["s", "p"],
+        Call::PathChain => &["s", "p", "q"],
         Call::Delta => &["s", "t", "f", "j"],
         Call::Sigma | Call::Pi => &["s", "t", "f", "i"],
         Call::CheckPushed | Call::CheckRaw | Call::PushedToRaw | Call::RawToPushed => {

@@ -52,13 +52,24 @@ pub fn other_numbers(text: &str, header: &Header) -> Vec<Change> {
     changes
 }
 
-/// Each pair of constants with the numbers of each other.
+/// Each pair of constants with the numbers of each other, where these differ.
 pub fn exchanged_numbers(text: &str, header: &Header) -> Vec<Change> {
     let change = |(one, other): (&Constant, &Constant)| {
         let name = format!("{} and {}", one.name.text, other.name.text);
         Change::new(name, text, &exchange(&one.value, &other.value))
     };
-    pairs(&header.constants).map(change).collect()
+    let differ = |(one, other): &(&Constant, &Constant)| !have_one_number(header, one, other);
+    pairs(&header.constants).filter(differ).map(change).collect()
+}
+
+fn have_one_number(header: &Header, one: &Constant, other: &Constant) -> bool {
+    header.value(&one.name.text) == header.value(&other.name.text)
+}
+
+/// The names of each pair of constants that have one number.
+pub fn equal_numbers(header: &Header) -> Vec<[&str; 2]> {
+    let alike = pairs(&header.constants).filter(|(one, other)| have_one_number(header, one, other));
+    alike.map(|(one, other)| [one.name.text.as_str(), other.name.text.as_str()]).collect()
 }
 
 /// Each pair of a prototype's parameters of one type with the names of each

@@ -27,6 +27,9 @@ pub const INSTANCE_BYTES: &str = "MIGRATION_INSTANCE_BYTES";
 /// The most bytes of a matching sheet.
 pub const MATCHING_BYTES: &str = "MIGRATION_MATCHING_BYTES";
 
+/// The most bytes of a path sheet.
+pub const PATH_BYTES: &str = "MIGRATION_PATH_BYTES";
+
 /// The most bytes of a chain sheet.
 pub const CHAIN_BYTES: &str = "MIGRATION_CHAIN_BYTES";
 
@@ -37,7 +40,7 @@ macro_rules! stacks {
 
 /// The bytes of stack that the calls need, which are tried where the wrapper is.
 pub const STACKS: [(&str, usize); 9] = stacks! {
-    STACK_CHECK_SCHEMA STACK_CHECK_MAPPING STACK_CHECK_INSTANCE STACK_SAME_PATH STACK_PATH_CHAIN
+    STACK_CHECK_SCHEMA STACK_CHECK_MAPPING STACK_CHECK_INSTANCE STACK_FIRST_PATH STACK_PATH_CHAIN
     STACK_DELTA STACK_SIGMA STACK_PI STACK_MATCHINGS
 };
 

@@ -1,16 +1,16 @@
-//! Trials of the header's three sizes: sheets of just so many bytes, and trays.
+//! Trials of the header's four sizes: sheets of just so many bytes, and trays.
 
 use crate::arguments::TRAY;
-use crate::constants::{CHAIN_BYTES, INSTANCE_BYTES, MATCHING_BYTES};
+use crate::constants::{CHAIN_BYTES, INSTANCE_BYTES, MATCHING_BYTES, PATH_BYTES};
 use crate::trials::Trial;
 use reference::plain::{Attribute, Instance, Schema};
 use vectors::build::{graph, identity, instance, list, mapping, path};
 use vectors::call::{Call, Case};
 use vectors::chains::longer_way;
 
-/// Trials of the three sizes.
+/// Trials of the four sizes.
 pub fn longest() -> Vec<Trial> {
-    [longest_instances(), longest_lists(), chains()].concat()
+    [longest_instances(), longest_lists(), longest_paths(), chains()].concat()
 }
 
 /// The schema whose instances are the longest: 16 nodes, 32 edges and 16
@@ -76,6 +76,23 @@ fn longest_lists() -> Vec<Trial> {
         }
     }
     trials
+}
+
+/// A path of 15 edges, which is first in its class, in a tray that holds every path;
+/// and in a tray of a byte less.
+fn longest_paths() -> Vec<Trial> {
+    let edges: Vec<(usize, usize)> = (0..15).map(|node| (node, node + 1)).collect();
+    let schema = graph(16, &edges).to_sheet();
+    let longest = path(0, &(0..15).collect::<Vec<_>>()).to_sheet();
+    let asked = |what: &str, more: i64, sheet: Vec<u8>, less: usize| {
+        let case = Case::new(what, Call::FirstPath, vec![schema.clone(), sheet]);
+        let trial = Trial::new(case.with_tray(Case::MOST_PATH - less));
+        trial.sized(2, PATH_BYTES, more).sized(TRAY, PATH_BYTES, -(less as i64))
+    };
+    let around = around(&longest)
+        .map(|(what, more, sheet)| asked(&format!("the longest path, {what}"), more, sheet, 0));
+    let short = asked("the longest path, a tray of a byte less", 0, longest, 1);
+    [&around[..], &[short]].concat()
 }
 
 /// A chain of 222 steps, the longest that is known, in a tray that holds every

@@ -5,7 +5,9 @@ mod common;
 
 use common::{header_text, repository, run};
 use header::arguments::export;
-use header::constants::{constant, CHAIN_BYTES, INSTANCE_BYTES, MATCHING_BYTES, REFUSALS, STACKS};
+use header::constants::{
+    constant, CHAIN_BYTES, INSTANCE_BYTES, MATCHING_BYTES, PATH_BYTES, REFUSALS, STACKS,
+};
 use header::model::first_failure;
 use header::program::program;
 use header::read::Header;
@@ -41,13 +43,13 @@ fn every_refusal_of_the_papers_is_met() {
 }
 
 /// "An instance sheet is at most 51,220 bytes."  A matching sheet has 9 bits for
-/// each of 512 rows.  A chain has 8 bits and 10 for each of at most 255 steps.
+/// each of 512 rows.  A path has 8 bits and 5 for each of at most 15 edges, a chain 8
+/// bits and 10 for each of at most 255 steps.
 #[test]
 fn the_sizes_are_those_of_the_papers() {
-    let chain = (8 + 255 * 10 + 7) / 8;
-    for (name, bytes) in
-        [(INSTANCE_BYTES, 51_220), (MATCHING_BYTES, 512 * 9 / 8), (CHAIN_BYTES, chain)]
-    {
+    let (path, chain) = ((8 + 15 * 5 + 7) / 8, (8 + 255 * 10 + 7) / 8);
+    let [instance, matching] = [(INSTANCE_BYTES, 51_220), (MATCHING_BYTES, 512 * 9 / 8)];
+    for (name, bytes) in [instance, matching, (PATH_BYTES, path), (CHAIN_BYTES, chain)] {
         for trial in trials() {
             let places = 0..=trial.case.sheets.len();
             let sized = places.filter_map(|place| Some((place, trial.size(place)?)));
@@ -62,6 +64,8 @@ fn the_sizes_are_those_of_the_papers() {
     };
     assert_eq!(result("the longest result"), (51_220, Some(51_120)));
     assert_eq!(result("the longest result, a tray of a byte less"), (51_119, None));
+    assert_eq!(result("the longest path, whole"), (11, Some(11)));
+    assert_eq!(result("the longest path, a tray of a byte less"), (10, None));
     assert_eq!(result("the longest chain"), (320, Some(279)));
     assert_eq!(result("the longest chain, a tray of 278"), (278, None));
     assert_eq!(result("no chain, a tray of 0"), (0, Some(0)));
@@ -77,6 +81,7 @@ fn the_wrapper_has_the_same_words_and_sizes() {
     }
     assert_eq!(header.value(INSTANCE_BYTES), Some(migration::MOST_INSTANCE_BYTES as u64));
     assert_eq!(header.value(MATCHING_BYTES), Some(migration::MOST_MATCHING_BYTES as u64));
+    assert_eq!(header.value(PATH_BYTES), Some(migration::MOST_PATH_BYTES as u64));
     assert_eq!(header.value(CHAIN_BYTES), Some(migration::MOST_CHAIN_BYTES as u64));
     for (name, bytes) in STACKS {
         assert_eq!(header.value(name), Some(bytes as u64), "{name}");

@@ -7,8 +7,7 @@ use crate::Refusal;
 const REFUSED: u64 = 1 << 32;
 
 /// What the library's answer means.  For a call that writes a sheet the number
-/// is its byte length, for the path question 1 or 0, for a check 0; for a chain
-/// 0 where there is none.
+/// is its byte length, for a check 0; for a chain 0 where there is none.
 pub(crate) fn read(answer: u64) -> Result<usize, Refusal> {
     match answer.checked_sub(REFUSED) {
         None => Ok(answer as usize),

@@ -1,4 +1,4 @@
-//! The checks of schemas, mappings and instances, and the path question.
+//! The checks of schemas, mappings and instances.
 
 use crate::ffi::call;
 use crate::Refusal;
@@ -52,21 +52,4 @@ pub fn check_mapping(s: &[u8], t: &[u8], f: &[u8]) -> Result<(), Refusal> {
 /// 1 to 6 at place 1; 1, 2, 3, 9, 10, 11 at place 2.
 pub fn check_instance(s: &[u8], i: &[u8]) -> Result<(), Refusal> {
     call!(migration_check_instance(s, i)).map(drop)
-}
-
-/// Whether two paths (places 2 and 3) of a schema (place 1) are equal by its
-/// equations.
-///
-/// ```
-/// let s = [0x18, 0x42, 0x00, 0x04, 0x84, 0x04, 0x84];
-/// let along_joint = [0x01, 0x00]; // from Dent along link 0
-/// let at_dent = [0x00]; // the trivial path at Dent
-/// assert_eq!(migration::same_path(&s, &along_joint, &along_joint), Ok(true));
-/// assert_eq!(migration::same_path(&s, &along_joint, &at_dent), Ok(false));
-/// ```
-///
-/// # Errors
-/// 1 to 6 at place 1; 1, 2, 4 at place 2 or 3.
-pub fn same_path(s: &[u8], p: &[u8], q: &[u8]) -> Result<bool, Refusal> {
-    call!(migration_same_path(s, p, q)).map(|equal| equal == 1)
 }

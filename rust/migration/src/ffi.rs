@@ -31,13 +31,13 @@ extern "C" {
         i_len: usize,
     ) -> u64;
 
-    pub(crate) fn migration_same_path(
+    pub(crate) fn migration_first_path(
         s: *const u8,
         s_len: usize,
         p: *const u8,
         p_len: usize,
-        q: *const u8,
-        q_len: usize,
+        tray: *mut u8,
+        tray_len: usize,
     ) -> u64;
 
     pub(crate) fn migration_path_chain(

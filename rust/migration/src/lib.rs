@@ -45,12 +45,14 @@ mod answer;
 mod chain;
 mod checks;
 mod ffi;
+mod first_path;
 mod matchings;
 mod migrations;
 mod refusal;
 
 pub use chain::{path_chain, path_chain_into};
-pub use checks::{check_instance, check_mapping, check_schema, same_path};
+pub use checks::{check_instance, check_mapping, check_schema};
+pub use first_path::{first_path, first_path_into};
 pub use matchings::{
     check_pushed, check_raw, pushed_to_raw, pushed_to_raw_into, raw_to_pushed, raw_to_pushed_into,
 };
@@ -66,6 +68,10 @@ pub const MOST_INSTANCE_BYTES: usize = 51_220;
 /// this size holds every result of a turning.
 pub const MOST_MATCHING_BYTES: usize = 576;
 
+/// The most bytes that a path sheet has: start, length and 15 edges of 5 bits.  A
+/// tray of this size holds every result of [`first_path`].
+pub const MOST_PATH_BYTES: usize = 11;
+
 /// The most bytes that a chain sheet has: 255 steps of 10 bits.  A tray of this
 /// size holds every result of [`path_chain`].
 pub const MOST_CHAIN_BYTES: usize = 320;
@@ -79,8 +85,8 @@ pub const STACK_CHECK_MAPPING: usize = 24 * 1024;
 /// The stack that [`check_instance`] needs.
 pub const STACK_CHECK_INSTANCE: usize = 120 * 1024;
 
-/// The stack that [`same_path`] needs.
-pub const STACK_SAME_PATH: usize = 20 * 1024;
+/// The stack that [`first_path`] needs.
+pub const STACK_FIRST_PATH: usize = 20 * 1024;
 
 /// The stack that [`path_chain`] needs.
 pub const STACK_PATH_CHAIN: usize = 32 * 1024;

@@ -29,6 +29,8 @@ const AB: [u8; 3] = [0x02, 0x00, 0x40];
 const CD: [u8; 3] = [0x02, 0x10, 0xC0];
 const ABF: [u8; 3] = [0x03, 0x00, 0x48];
 const CDF: [u8; 3] = [0x03, 0x10, 0xC8];
+/// The trivial path at the last node.
+const LAST: [u8; 1] = [0x40];
 
 /// A call that fills a tray.
 type Fill<'a> = &'a dyn Fn(&mut [u8]) -> Result<usize, Refusal>;
@@ -66,6 +68,25 @@ fn both_forms_of_each_call_agree() {
     forms_agree(raw_to_pushed(&S, &T, &F, &RUN, &BOOK, &RAW), &|tray| {
         raw_to_pushed_into(&S, &T, &F, &RUN, &BOOK, &RAW, tray)
     });
+}
+
+#[test]
+fn both_forms_agree_on_a_first_path() {
+    for p in [&AB[..], &CD, &ABF, &CDF, &LAST] {
+        forms_agree(first_path(&RULED, p), &|tray| first_path_into(&RULED, p, tray));
+    }
+}
+
+/// Two paths are equal exactly where their first paths are the same.
+#[test]
+fn a_first_path_is_that_of_the_papers() {
+    for (p, q) in [(AB, CD), (ABF, CDF)] {
+        assert_eq!(first_path(&RULED, &p), Ok(p.to_vec()));
+        assert_eq!(first_path(&RULED, &q), Ok(p.to_vec()));
+        assert_eq!(first_path(&FREE, &p), Ok(p.to_vec()));
+        assert_eq!(first_path(&FREE, &q), Ok(q.to_vec()));
+    }
+    assert_eq!(first_path(&RULED, &LAST), Ok(LAST.to_vec()));
 }
 
 /// The chain from one path to another.
@@ -126,8 +147,11 @@ fn each_place_is_told() {
     assert_eq!(check_pushed(&S, &T, &F, &RUN, &none, &PUSHED), refused(1, 5));
     assert_eq!(check_pushed(&S, &T, &F, &RUN, &BOOK, &none), refused(1, 6));
     assert_eq!(check_pushed(&S, &T, &F, &RUN, &BOOK, &RAW), refused(17, 6));
-    assert_eq!(same_path(&S, &none, &[0x00]), refused(1, 2));
-    assert_eq!(same_path(&S, &[0x00], &none), refused(1, 3));
+    assert_eq!(first_path(&none, &AB), refused(1, 1));
+    assert_eq!(first_path(&RULED, &none), refused(1, 2));
+    assert_eq!(first_path(&RULED, &[0x02, 0x10, 0xD0]), refused(2, 2));
+    assert_eq!(first_path(&RULED, &[0x12, 0x00, 0x40]), refused(4, 2));
+    assert_eq!(first_path_into(&RULED, &CD, &mut [0; 2]), refused(16, 0));
     assert_eq!(path_chain(&none, &AB, &CD), refused(1, 1));
     assert_eq!(path_chain(&RULED, &none, &CD), refused(1, 2));
     assert_eq!(path_chain(&RULED, &AB, &none), refused(1, 3));

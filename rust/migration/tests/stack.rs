@@ -22,7 +22,7 @@ fn stack(call: Call) -> usize {
         Call::CheckSchema => STACK_CHECK_SCHEMA,
         Call::CheckMapping => STACK_CHECK_MAPPING,
         Call::CheckInstance => STACK_CHECK_INSTANCE,
-        Call::SamePath => STACK_SAME_PATH,
+        Call::FirstPath => STACK_FIRST_PATH,
         Call::PathChain => STACK_PATH_CHAIN,
         Call::Delta => STACK_DELTA,
         Call::Sigma => STACK_SIGMA,
@@ -55,11 +55,12 @@ fn longest_paths() -> Vec<Case> {
     let path = path(0, &[]).to_sheet();
     let calls = |schema: Schema| {
         let sheet = schema.to_sheet();
-        let asked = vec![sheet.clone(), path.clone(), path.clone()];
+        let asked = vec![sheet.clone(), path.clone()];
+        let between = vec![sheet.clone(), path.clone(), path.clone()];
         [
             Case::new("a chain of 16 nodes", Call::CheckSchema, vec![sheet]),
-            Case::new("a chain of 16 nodes", Call::SamePath, asked.clone()),
-            Case::new("a chain of 16 nodes", Call::PathChain, asked),
+            Case::new("a chain of 16 nodes", Call::FirstPath, asked),
+            Case::new("a chain of 16 nodes", Call::PathChain, between),
         ]
     };
     [doubled_chain(16), closed].into_iter().flat_map(calls).collect()

@@ -2,7 +2,8 @@
 //! or instances, path or paths; of transposition's two instances the run over S
 //! comes first. ... Then 12, 13, 14, 15; then the matching sheet (1, 2, 17);
 //! last 16. A refusal is the number and the sheet's place counted from 1 (0 for
-//! 12 to 16)."  The call of request C-11 of document 02 keeps to that order.
+//! 12 to 16)."  The calls of requests C-11 and C-14 of document 02 keep to that
+//! order.
 
 use crate::chains::Chain;
 use crate::instance::Instance;
@@ -34,27 +35,28 @@ pub fn check_instance(s: &[u8], i: &[u8]) -> Result<(), Refusal> {
     at(2, Instance::accept(&schema, i)).map(|_| ())
 }
 
-/// "The path question takes a schema and two path sheets and yields yes or no."
-/// Paths with other starts or ends are unequal.
-pub fn same_path(s: &[u8], p: &[u8], q: &[u8]) -> Result<bool, Refusal> {
-    let (schema, p, q) = accept_paths(s, p, q)?;
-    Ok(p.equals(&schema, &q))
+/// "The path question now takes one path and yields, as a path sheet, the first
+/// path equal to it in document 01's order": the answer's whole sheet.  Paths
+/// with other starts or ends are unequal and have other answers.
+pub fn first_path(s: &[u8], p: &[u8]) -> Result<Vec<u8>, Refusal> {
+    let (schema, p) = accept_path(s, p)?;
+    Ok(p.first_equal(&schema).to_sheet())
 }
 
 /// "For two equal paths they want the chain from the first lent path to the
 /// second": the written chain.  "Unequal paths give "none", and that is given in
 /// no other case."  Equal lists have the chain of 0 steps.
 pub fn path_chain(s: &[u8], p: &[u8], q: &[u8]) -> Result<Option<Vec<u8>>, Refusal> {
-    let (schema, p, q) = accept_paths(s, p, q)?;
+    let (schema, p) = accept_path(s, p)?;
+    let q = at(3, Path::accept(&schema, q))?;
     Ok(Chain::between(&schema, &p, &q).map(|chain| chain.to_sheet()))
 }
 
-/// Accepted S (place 1), first path (2) and second path (3).
-fn accept_paths(s: &[u8], p: &[u8], q: &[u8]) -> Result<(Schema, Path, Path), Refusal> {
+/// Accepted S (place 1) and the path (2), of two paths the first.
+fn accept_path(s: &[u8], p: &[u8]) -> Result<(Schema, Path), Refusal> {
     let schema = at(1, Schema::accept(s))?;
     let p = at(2, Path::accept(&schema, p))?;
-    let q = at(3, Path::accept(&schema, q))?;
-    Ok((schema, p, q))
+    Ok((schema, p))
 }
 
 /// Delta of a T-instance (place 4): the result's whole sheet.

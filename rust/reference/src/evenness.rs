@@ -3,8 +3,9 @@
 //! there is a path from c whose image equals q, one only up to equality; and
 //! each attribute at F(c) is the image of exactly one attribute at c."
 
+use crate::classes::Classes;
 use crate::mapping::Mapping;
-use crate::paths::{Classes, Path};
+use crate::paths::Path;
 use crate::schema::Schema;
 
 /// An accepted mapping F of S to T with the classes of equal paths of both.
@@ -32,7 +33,7 @@ impl<'a> Lifting<'a> {
         let mut targets = self.t_classes.from(self.f.nodes[c]);
         targets.all(|q| {
             let lifts = self.lifts(c, q);
-            let same_class = |p: &&Path| self.s_classes.class(p) == self.s_classes.class(lifts[0]);
+            let same_class = |p: &&Path| self.s_classes.first(p) == self.s_classes.first(lifts[0]);
             !lifts.is_empty() && lifts.iter().all(same_class)
         })
     }
@@ -40,8 +41,8 @@ impl<'a> Lifting<'a> {
     /// The lifts of q at c: all paths of S from c, whatever their end, whose
     /// image equals q, in the order of paths.
     fn lifts(&self, c: usize, q: &Path) -> Vec<&Path> {
-        let class = self.t_classes.class(q);
-        let is_lift = |p: &&Path| self.t_classes.class(&self.f.path_image(p)) == class;
+        let first = self.t_classes.first(q);
+        let is_lift = |p: &&Path| self.t_classes.first(&self.f.path_image(p)) == first;
         self.s_classes.from(c).filter(is_lift).collect()
     }
 

@@ -1,12 +1,13 @@
 //! A naive reference implementation of document 01, "Delta, Sigma and Pi for
-//! inspection run records", and of requests C-11 and C-12 of document 02, "Which
-//! rules made these paths equal" and "Twelve o'clock is 720".
+//! inspection run records", and of requests C-11, C-12 and C-14 of document 02,
+//! "Which rules made these paths equal", "Twelve o'clock is 720" and "The first
+//! path of a class".
 //!
 //! It is written from the definitions, clarity before speed: equal paths are
-//! found by searching chains of steps, shortest chains by searching level by
-//! level, evenness is tested over all paths, and the rows of Pi are listed as
-//! families.  It serves as the other implementation against which results are
-//! compared.
+//! found by searching chains of steps, and the first of them stands for all;
+//! shortest chains are found by searching level by level, evenness is tested over
+//! all paths, and the rows of Pi are listed as families.  It serves as the other
+//! implementation against which results are compared.
 //!
 //! The calls take sheets as byte slices, in the order in which document 01
 //! judges them.  The decoded types and their encoders are gathered in
@@ -18,6 +19,7 @@
 pub mod bits;
 pub mod calls;
 pub mod chains;
+pub mod classes;
 pub mod evenness;
 pub mod families;
 pub mod instance;
@@ -30,8 +32,8 @@ pub mod refusal;
 pub mod schema;
 
 pub use calls::{
-    check_instance, check_mapping, check_pushed, check_raw, check_schema, delta, into_tray,
-    into_tray_or_none, path_chain, pi, pushed_to_raw, raw_to_pushed, same_path, sigma,
+    check_instance, check_mapping, check_pushed, check_raw, check_schema, delta, first_path,
+    into_tray, into_tray_or_none, path_chain, pi, pushed_to_raw, raw_to_pushed, sigma,
 };
 pub use program::push;
 pub use refusal::Refusal;

@@ -60,12 +60,13 @@ impl Mapping {
         }
     }
 
-    /// No "equation of S has unequal images in T".
+    /// No "equation of S has unequal images in T": the first paths equal to its
+    /// sides' images are the same.
     fn keeps_equations(&self, s: &Schema, t: &Schema) -> bool {
         s.equations.iter().all(|equation| {
             let left = self.path_image(&equation.left);
             let right = self.path_image(&equation.right);
-            left.equals(t, &right)
+            left.first_equal(t) == right.first_equal(t)
         })
     }
 

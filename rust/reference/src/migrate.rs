@@ -1,11 +1,12 @@
 //! "The three migrations": Delta, Sigma and Pi on accepted schemas, mappings
 //! and instances.
 
+use crate::classes::Classes;
 use crate::evenness::Lifting;
 use crate::families::{Arrow, Diagram};
 use crate::instance::Instance;
 use crate::mapping::Mapping;
-use crate::paths::{Classes, Path};
+use crate::paths::Path;
 use crate::refusal::{demand, Judged, OVERFULL, UNEVEN, UNPAIRED, WIDE};
 use crate::schema::Schema;
 use std::collections::BTreeSet;
@@ -92,11 +93,12 @@ pub fn pi(s: &Schema, t: &Schema, f: &Mapping, i: &Instance) -> Judged<Instance>
 }
 
 /// "a component at d is a node c with a class of equal paths from d to F(c),
-/// ordered by c and then by the class's first path".
+/// ordered by c and then by the class's first path".  That path stands for the
+/// class.
 #[derive(Debug, Clone, Copy, PartialEq, Eq, PartialOrd, Ord)]
-struct Component {
+struct Component<'a> {
     node: usize,
-    class: usize,
+    first: &'a Path,
 }
 
 /// The families of one table: each has one row per component.
@@ -113,13 +115,13 @@ struct Gathering<'a> {
 
 impl Gathering<'_> {
     /// The components at d, in order.
-    fn components(&self, d: usize) -> Vec<Component> {
+    fn components(&self, d: usize) -> Vec<Component<'_>> {
         let mut components = Vec::new();
         for node in 0..self.s.nodes {
             let ends_here = |g: &&Path| g.end(self.t) == Some(self.f.nodes[node]);
             let paths = self.classes.from(d).filter(ends_here);
-            let classes: BTreeSet<usize> = paths.map(|g| self.classes.class(g)).collect();
-            components.extend(classes.into_iter().map(|class| Component { node, class }));
+            let firsts: BTreeSet<&Path> = paths.map(|g| self.classes.first(g)).collect();
+            components.extend(firsts.into_iter().map(|first| Component { node, first }));
         }
         components
     }
@@ -151,19 +153,18 @@ impl Gathering<'_> {
 
     /// For the component (c, g) and an S-edge from c to c', the component
     /// "(c', g followed by the edge's image)".
-    fn carried(&self, component: Component, edge: usize) -> Component {
+    fn carried(&self, component: Component, edge: usize) -> Component<'_> {
         let image = self.f.edge_image(self.s, edge);
-        let path = self.classes.first(component.class).followed_by(&image);
-        Component { node: self.s.edges[edge].target, class: self.classes.class(&path) }
+        let path = component.first.followed_by(&image);
+        Component { node: self.s.edges[edge].target, first: self.classes.first(&path) }
     }
 
     /// "A link along e takes component (c, g) from (c, e followed by g)."
     fn link(&self, e: usize, tables: &[Vec<Component>], families: &[Families]) -> Vec<usize> {
         let edge = self.t.edges[e];
         let after_e = |component: &Component| {
-            let g = self.classes.first(component.class);
-            let path = Path::along(self.t, e).followed_by(g);
-            Component { node: component.node, class: self.classes.class(&path) }
+            let path = Path::along(self.t, e).followed_by(component.first);
+            Component { node: component.node, first: self.classes.first(&path) }
         };
         let sources = tables[edge.target].iter().map(after_e);
         let places: Vec<usize> = sources.map(|c| place(&tables[edge.source], c)).collect();
@@ -180,8 +181,8 @@ impl Gathering<'_> {
         let d = self.t.attributes[b].node;
         let over = self.f.attributes_over(b);
         let a = *over.first().expect("a bijection has an attribute over each");
-        let class = self.classes.class(&Path::trivial(d));
-        let k = place(&tables[d], Component { node: self.s.attributes[a].node, class });
+        let first = self.classes.first(&Path::trivial(d));
+        let k = place(&tables[d], Component { node: self.s.attributes[a].node, first });
         families[d].iter().map(|family| self.i.values[a][family[k]]).collect()
     }
 }

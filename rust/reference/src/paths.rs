@@ -1,12 +1,12 @@
-//! Paths and their equality: "A path is a start node and a list of edges that
+//! Paths and the steps on them: "A path is a start node and a list of edges that
 //! join up; length 0 is the trivial path."
 
 use crate::bits::{BitReader, BitWriter};
 use crate::chains::Step;
+use crate::classes::Class;
 use crate::refusal::{Judged, STRAY};
 use crate::schema::{Equation, Schema};
 use std::cmp::Ordering;
-use std::collections::{BTreeMap, BTreeSet, VecDeque};
 
 /// A start node and a list of edges; a path of a schema if they join up there.
 #[derive(Debug, Clone, PartialEq, Eq)]
@@ -135,25 +135,11 @@ impl Path {
         found
     }
 
-    /// All paths that a chain of steps leads to, this one included: a
-    /// breadth-first search.  The schema is an accepted one, so there are at
-    /// most 256 paths to find.
-    pub fn equal_paths(&self, schema: &Schema) -> BTreeSet<Path> {
-        let mut found = BTreeSet::from([self.clone()]);
-        let mut waiting = VecDeque::from([self.clone()]);
-        while let Some(path) = waiting.pop_front() {
-            for (_, next) in path.steps(schema) {
-                if found.insert(next.clone()) {
-                    waiting.push_back(next);
-                }
-            }
-        }
-        found
-    }
-
-    /// "Two paths are equal if a chain of steps leads from one to the other".
-    pub fn equals(&self, schema: &Schema, other: &Path) -> bool {
-        self.equal_paths(schema).contains(other)
+    /// The first path equal to this one, a path of an accepted schema.  "two
+    /// paths are equal by document 01's chains exactly when these answers are
+    /// the same".
+    pub fn first_equal(&self, schema: &Schema) -> Path {
+        Class::of(schema, self).first().clone()
     }
 }
 
@@ -189,41 +175,4 @@ fn extensions(schema: &Schema, path: &Path) -> Vec<Path> {
     let end = path.node_after(schema, path.edges.len());
     let last_edges = schema.edges_from(end).into_iter();
     last_edges.map(|edge| path.followed_by(&Path::along(schema, edge))).collect()
-}
-
-/// All paths of an accepted schema, sorted into classes of equal paths.  A
-/// class is known by the number of its first path in the order of paths.
-pub struct Classes {
-    paths: Vec<Path>,
-    class_of: BTreeMap<Path, usize>,
-}
-
-impl Classes {
-    /// The classes of an accepted schema.
-    pub fn of(schema: &Schema) -> Self {
-        let paths = all_paths(schema);
-        let mut class_of = BTreeMap::new();
-        for (number, path) in paths.iter().enumerate() {
-            if !class_of.contains_key(path) {
-                let equal = path.equal_paths(schema).into_iter();
-                class_of.extend(equal.map(|same| (same, number)));
-            }
-        }
-        Classes { paths, class_of }
-    }
-
-    /// The class of a path of the schema.
-    pub fn class(&self, path: &Path) -> usize {
-        self.class_of[path]
-    }
-
-    /// A class's first path.
-    pub fn first(&self, class: usize) -> &Path {
-        &self.paths[class]
-    }
-
-    /// All paths with start `node`, in their order.
-    pub fn from(&self, node: usize) -> impl Iterator<Item = &Path> {
-        self.paths.iter().filter(move |path| path.start == node)
-    }
 }

@@ -1,5 +1,5 @@
 //! Document 01's "Runs to check against", cases 1 to 12; case 11 as request C-12
-//! of document 02 has it.
+//! of document 02 has it, and the path question as C-14 has it.
 
 mod common;
 
@@ -84,16 +84,19 @@ fn square_with(rule: Equation) -> Vec<u8> {
 fn case_07_an_equation_holds_inside_longer_paths() {
     let s = square_with(equation(0, &[0, 1], &[2, 3]));
     let (abf, cdf) = (path(0, &[0, 1, 4]).to_sheet(), path(0, &[2, 3, 4]).to_sheet());
-    assert_eq!(same_path(&s, &abf, &cdf), Ok(true));
+    assert_eq!(first_path(&s, &abf), Ok(abf.clone()));
+    assert_eq!(first_path(&s, &cdf), Ok(abf));
 }
 
 #[test]
 fn case_08_a_common_end_is_not_cancelled() {
     let s = square_with(equation(0, &[0, 1, 4], &[2, 3, 4]));
     let (ab, cd) = (path(0, &[0, 1]).to_sheet(), path(0, &[2, 3]).to_sheet());
-    assert_eq!(same_path(&s, &ab, &cd), Ok(false));
+    assert_eq!(first_path(&s, &ab), Ok(ab));
+    assert_eq!(first_path(&s, &cd), Ok(cd));
     let (abf, cdf) = (path(0, &[0, 1, 4]).to_sheet(), path(0, &[2, 3, 4]).to_sheet());
-    assert_eq!(same_path(&s, &abf, &cdf), Ok(true));
+    assert_eq!(first_path(&s, &abf), Ok(abf.clone()));
+    assert_eq!(first_path(&s, &cdf), Ok(abf));
 }
 
 #[test]
@@ -101,8 +104,10 @@ fn case_09_an_empty_sheet_and_a_byte_too_many() {
     assert_eq!(check_schema(&[]), refused(1, 1));
     let long = [path(0, &[0]).to_sheet(), vec![0]].concat();
     let right = path(0, &[0]).to_sheet();
-    assert_eq!(same_path(&base_s(), &long, &right), refused(2, 2));
-    assert_eq!(same_path(&base_s(), &right, &long), refused(2, 3));
+    assert_eq!(first_path(&base_s(), &right), Ok(right.clone()));
+    assert_eq!(first_path(&base_s(), &long), refused(2, 2));
+    assert_eq!(path_chain(&base_s(), &long, &right), refused(2, 2));
+    assert_eq!(path_chain(&base_s(), &right, &long), refused(2, 3));
 }
 
 #[test]

@@ -6,40 +6,7 @@ mod common;
 use common::*;
 use reference::paths::all_paths;
 use reference::plain::*;
-use reference::*;
 use vectors::random::Random;
-
-/// One of all paths, rather a longer one.
-fn any_path(random: &mut Random, schema: &Schema) -> Path {
-    let paths = all_paths(schema);
-    let [one, other, third] = [(); 3].map(|_| random.one_of(&paths));
-    one.max(other).max(third).clone()
-}
-
-/// A small schema without loops, its nodes in any order.  Equations may have
-/// trivial or identical sides, or come twice.
-fn any_schema(random: &mut Random) -> Schema {
-    let count = 2 + random.below(3);
-    let nodes: Vec<usize> = random.shuffled((0..count).collect());
-    let edge = |_| {
-        let target = 1 + random.below(nodes.len() - 1);
-        (nodes[random.below(target)], nodes[target])
-    };
-    let edges: Vec<(usize, usize)> = (0..8).map(edge).collect();
-    let mut schema = graph(nodes.len(), &edges[..2 + random.below(7)]);
-    for _ in 0..random.below(9) {
-        let left = any_path(random, &schema);
-        let right = random.one_of(&alongside(&schema, &left)).clone();
-        schema.equations.push(Equation { left, right });
-    }
-    schema
-}
-
-/// The paths with the start and the end of `p`, itself among them.
-fn alongside(schema: &Schema, p: &Path) -> Vec<Path> {
-    let ends = |q: &Path| (q.start, q.end(schema));
-    all_paths(schema).into_iter().filter(|q| ends(q) == ends(p)).collect()
-}
 
 /// The path that a step by its numbers makes of `p`, or none.
 fn after_step(schema: &Schema, p: &Path, [equation, direction, before]: Numbers) -> Option<Path> {
@@ -136,13 +103,22 @@ fn the_search_agrees_with_trying_all_chains() {
 }
 
 #[test]
-fn there_is_a_chain_exactly_for_the_same_path() {
+fn there_is_a_chain_exactly_where_the_first_paths_are_the_same() {
     let mut random = Random::seeded(11);
-    for _ in 0..300 {
+    let (mut chains, mut nones) = (0, 0);
+    for _ in 0..200 {
         let s = any_schema(&mut random);
-        let p = any_path(&mut random, &s);
-        let q = random.one_of(&alongside(&s, &p)).clone();
-        let same = same_path(&s.to_sheet(), &p.to_sheet(), &q.to_sheet());
-        assert_eq!(chain(&s, &p, &q).map(|given| given.is_some()), same);
+        let paths = all_paths(&s);
+        let firsts: Vec<Path> = paths.iter().map(|p| first(&s, p)).collect();
+        for (p, p_first) in paths.iter().zip(&firsts) {
+            for (q, q_first) in paths.iter().zip(&firsts) {
+                let has_chain = chain(&s, p, q).expect("accepted sheets").is_some();
+                assert_eq!(has_chain, p_first == q_first, "{s:?} {p:?} {q:?}");
+                chains += usize::from(has_chain && p != q);
+                nones += usize::from(!has_chain);
+            }
+        }
     }
+    println!("chains {chains}, none {nones}");
+    assert!(chains > 1000 && nones > 1000);
 }

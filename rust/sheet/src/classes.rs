@@ -28,73 +28,49 @@ pub fn all_paths(schema: &Schema) -> Option<Vec<Path>> {
     Some(paths)
 }
 
-/// The paths of an accepted schema, sorted into classes of equal paths by the
-/// proved path question.
+/// The paths of an accepted schema in their order, each with the first path that
+/// is equal to it, as the proved call gives it.
 pub(crate) struct Classes {
-    paths: Vec<Path>,
-    class_of: BTreeMap<Path, usize>,
+    firsts: BTreeMap<Path, Path>,
 }
 
 impl Classes {
     /// The classes of a schema with its sheet; none where the sheet is not
     /// accepted.
     pub(crate) fn of(schema: &Schema, sheet: &[u8]) -> Option<Self> {
-        let paths = all_paths(schema)?;
-        let mut class_of: BTreeMap<Path, usize> = BTreeMap::new();
-        let mut firsts: Vec<usize> = Vec::new();
-        for (number, path) in paths.iter().enumerate() {
-            let mut class = number;
-            for &first in firsts.iter().filter(|_| !schema.equations.is_empty()) {
-                if parallel(schema, &paths[first], path) && same(sheet, &paths[first], path)? {
-                    class = first;
-                    break;
-                }
-            }
-            if class == number {
-                firsts.push(number);
-            }
-            class_of.insert(path.clone(), class);
-        }
-        Some(Classes { paths, class_of })
+        let paths = all_paths(schema)?.into_iter();
+        let firsts = paths.map(|path| first_path(sheet, &path).map(|first| (path, first)));
+        Some(Classes { firsts: firsts.collect::<Option<_>>()? })
     }
 
-    /// The class of a path, known by the number of its first path.
-    pub(crate) fn class(&self, path: &Path) -> Option<usize> {
-        self.class_of.get(path).copied()
+    /// The first path that is equal to a path.
+    pub(crate) fn first(&self, path: &Path) -> Option<&Path> {
+        self.firsts.get(path)
     }
 
     /// The other paths that are equal to a path, in order.
     pub(crate) fn others<'a>(&'a self, path: &'a Path) -> impl Iterator<Item = &'a Path> {
-        let class = self.class(path);
-        let is_other = move |other: &&Path| *other != path && self.class(other) == class;
-        self.paths.iter().filter(is_other)
+        let first = self.first(path);
+        let is_other = move |other: &&Path| *other != path && self.first(other) == first;
+        self.firsts.keys().filter(is_other)
     }
 
-    /// The first path of each class with this start, in order.
-    pub(crate) fn firsts_from(&self, start: usize) -> impl Iterator<Item = (usize, &Path)> {
-        let numbered = self.paths.iter().enumerate();
-        numbered.filter(move |(number, path)| {
-            path.start == start && self.class_of.get(*path) == Some(number)
-        })
+    /// The paths with this start that are the first of their class, in order.
+    pub(crate) fn firsts_from(&self, start: usize) -> impl Iterator<Item = &Path> {
+        let of_class = self.firsts.iter().filter(|(path, first)| path == first);
+        of_class.map(|(path, _)| path).filter(move |path| path.start == start)
     }
 }
 
-fn parallel(schema: &Schema, p: &Path, q: &Path) -> bool {
-    p.start == q.start && p.end(schema) == q.end(schema)
+/// The proved answer to which path is the first one equal to a path.
+fn first_path(sheet: &[u8], path: &Path) -> Option<Path> {
+    let first = migration::first_path(sheet, &path.to_sheet().ok()?).ok()?;
+    Path::from_sheet(&first).ok()
 }
 
-/// The proved answer to whether two paths are equal.
-fn same(sheet: &[u8], p: &Path, q: &Path) -> Option<bool> {
+/// The proved answer to which steps lead from a path to an equal one.
+pub(crate) fn chain(sheet: &[u8], p: &Path, q: &Path) -> Option<Chain> {
     let (p, q) = (p.to_sheet().ok()?, q.to_sheet().ok()?);
-    migration::same_path(sheet, &p, &q).ok()
-}
-
-/// The proved answer to which steps lead from a path to another, or that none do.
-/// None where the call refuses.
-pub(crate) fn chain(sheet: &[u8], p: &Path, q: &Path) -> Option<Option<Chain>> {
-    let (p, q) = (p.to_sheet().ok()?, q.to_sheet().ok()?);
-    match migration::path_chain(sheet, &p, &q).ok()? {
-        Some(written) => Chain::from_sheet(&written).ok().map(Some),
-        None => Some(None),
-    }
+    let written = migration::path_chain(sheet, &p, &q).ok()??;
+    Chain::from_sheet(&written).ok()
 }

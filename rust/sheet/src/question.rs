@@ -4,9 +4,11 @@ use crate::instance::Instance;
 use crate::lent::{Lent, LentSchema};
 use crate::mapping::Mapping;
 use crate::schema::Schema;
-use migration::{Refusal, MOST_CHAIN_BYTES, MOST_INSTANCE_BYTES, MOST_MATCHING_BYTES};
+use migration::{
+    Refusal, MOST_CHAIN_BYTES, MOST_INSTANCE_BYTES, MOST_MATCHING_BYTES, MOST_PATH_BYTES,
+};
 
-/// The proved calls.
+/// The proved calls, and the tool's own question whether two paths are equal.
 #[derive(Debug, Clone, Copy, PartialEq, Eq, Hash)]
 pub enum Call {
     /// Checks a schema.
@@ -15,7 +17,9 @@ pub enum Call {
     CheckMapping,
     /// Checks an instance.
     CheckInstance,
-    /// Whether two paths are equal.
+    /// The first path that is equal to a path.
+    FirstPath,
+    /// Whether two paths are equal: whether `FirstPath` answers the same for both.
     SamePath,
     /// By which steps two paths are equal.
     PathChain,
@@ -48,22 +52,23 @@ pub enum Role {
     Run,
     /// An instance of T.
     Book,
-    /// The first path of S.
-    FirstPath,
+    /// A path of S, the first of two or the only one.
+    P,
     /// The second path of S.
-    SecondPath,
+    Q,
     /// The list of partners.
     List,
 }
 
 impl Call {
-    /// The call's name.
+    /// The call's name; of the tool's own question the command's.
     pub fn name(self) -> &'static str {
         match self {
             Call::CheckSchema => "check_schema",
             Call::CheckMapping => "check_mapping",
             Call::CheckInstance => "check_instance",
-            Call::SamePath => "same_path",
+            Call::FirstPath => "first_path",
+            Call::SamePath => "same-path",
             Call::PathChain => "path_chain",
             Call::Delta => "delta",
             Call::Sigma => "sigma",
@@ -77,12 +82,13 @@ impl Call {
 
     /// What the sheets are, in the order of their places.
     pub fn roles(self) -> &'static [Role] {
-        use Role::{Book, FirstPath, List, Mapping, Run, SecondPath, S, T};
+        use Role::{Book, List, Mapping, Run, P, Q, S, T};
         match self {
             Call::CheckSchema => &[S],
             Call::CheckMapping => &[S, T, Mapping],
             Call::CheckInstance => &[S, Run],
-            Call::SamePath | Call::PathChain => &[S, FirstPath, SecondPath],
+            Call::FirstPath => &[S, P],
+            Call::SamePath | Call::PathChain => &[S, P, Q],
             Call::Delta => &[S, T, Mapping, Book],
             Call::Sigma | Call::Pi => &[S, T, Mapping, Run],
             Call::CheckPushed | Call::CheckRaw | Call::PushedToRaw | Call::RawToPushed => {
@@ -106,6 +112,14 @@ pub enum Answer {
     Equal(bool),
     /// The result's sheet; of a chain where the paths are equal.
     Sheet(Vec<u8>),
+}
+
+/// Whether two paths are equal; the second one has place 3 here, though the call
+/// has it at place 2.
+fn same_path(s: &[u8], p: &[u8], q: &[u8]) -> Result<bool, Refusal> {
+    let first = migration::first_path(s, p)?;
+    let second = migration::first_path(s, q);
+    second.map(|second| first == second).map_err(|refusal| Refusal { place: 3, ..refusal })
 }
 
 /// The sheet in a tray.
@@ -137,10 +151,10 @@ pub struct Question {
     pub run: Option<Lent>,
     /// The instance of T.
     pub book: Option<Lent>,
-    /// The first path.
-    pub first_path: Option<Lent>,
-    /// The second path.
-    pub second_path: Option<Lent>,
+    /// The path of S, the first of two or the only one.
+    pub p: Option<Lent>,
+    /// The second path of S.
+    pub q: Option<Lent>,
     /// The list of partners.
     pub list: Option<Lent>,
     /// The bytes of the lent tray; by default one that holds every result.
@@ -157,8 +171,8 @@ impl Question {
             mapping: None,
             run: None,
             book: None,
-            first_path: None,
-            second_path: None,
+            p: None,
+            q: None,
             list: None,
             tray: None,
         }
@@ -172,8 +186,8 @@ impl Question {
             Role::Mapping => self.mapping.as_ref(),
             Role::Run => self.run.as_ref(),
             Role::Book => self.book.as_ref(),
-            Role::FirstPath => self.first_path.as_ref(),
-            Role::SecondPath => self.second_path.as_ref(),
+            Role::P => self.p.as_ref(),
+            Role::Q => self.q.as_ref(),
             Role::List => self.list.as_ref(),
         }
     }
@@ -191,13 +205,16 @@ impl Question {
         let (s, t, f) = (self.sheet(Role::S), self.sheet(Role::T), self.sheet(Role::Mapping));
         let (run, book, list) =
             (self.sheet(Role::Run), self.sheet(Role::Book), self.sheet(Role::List));
-        let (p, q) = (self.sheet(Role::FirstPath), self.sheet(Role::SecondPath));
+        let (p, q) = (self.sheet(Role::P), self.sheet(Role::Q));
         let accepted = |()| Answer::Accepted;
         match self.call {
             Call::CheckSchema => migration::check_schema(s).map(accepted),
             Call::CheckMapping => migration::check_mapping(s, t, f).map(accepted),
             Call::CheckInstance => migration::check_instance(s, run).map(accepted),
-            Call::SamePath => migration::same_path(s, p, q).map(Answer::Equal),
+            Call::FirstPath => {
+                self.filled(MOST_PATH_BYTES, |tray| migration::first_path_into(s, p, tray))
+            }
+            Call::SamePath => same_path(s, p, q).map(Answer::Equal),
             Call::PathChain => {
                 let mut tray = self.new_tray(MOST_CHAIN_BYTES);
                 let length = migration::path_chain_into(s, p, q, &mut tray)?;

@@ -19,7 +19,7 @@ impl Question {
     /// let s = LentSchema::from_text("ruled.schema", text).unwrap();
     /// let path = |text| Lent::path(text, s.schema.as_ref().unwrap()).ok();
     /// let mut question = Question::new(Call::PathChain);
-    /// (question.first_path, question.second_path) = (path("A.x"), path("A.y"));
+    /// (question.p, question.q) = (path("A.x"), path("A.y"));
     /// question.s = Some(s);
     /// let answer = question.ask().unwrap();
     /// assert_eq!(
@@ -28,8 +28,8 @@ impl Question {
     /// );
     /// ```
     pub fn why(&self, answer: &Answer) -> Option<String> {
-        let p = Path::from_sheet(self.sheet(Role::FirstPath)).ok()?;
-        let q = Path::from_sheet(self.sheet(Role::SecondPath)).ok()?;
+        let p = Path::from_sheet(self.sheet(Role::P)).ok()?;
+        let q = Path::from_sheet(self.sheet(Role::Q)).ok()?;
         match answer {
             Answer::Sheet(sheet) => self.equal(&p, &Chain::from_sheet(sheet).ok()?),
             Answer::Equal(false) => self.unequal(&p, &q),

@@ -9,8 +9,8 @@ use std::process::Stdio;
 #[test]
 fn bad_usage_has_status_2_and_points_to_the_help() {
     let folder = Folder::with_example("usage", "base");
-    let names =
-        "pack, show, check, delta, sigma, pi, match, turn, same-path, why, draw, version or help";
+    let names = "pack, show, check, delta, sigma, pi, match, turn, first-path, same-path, why, \
+                 draw, version or help";
     let told = |line: &str, what: &str, see: &str| {
         folder.sheet(line).bad(&format!("sheet: {what}\nsee `sheet help{see}`\n"));
     };
@@ -40,6 +40,11 @@ fn bad_usage_has_status_2_and_points_to_the_help() {
     told("sigma --tray many", "--tray many; expected a number of bytes", "");
     told("sigma -o", "expected a file or folder after -o", "");
     told("sigma --force=yes", "--force takes no value", "");
+    told("first-path vendor.schema", "expected SCHEMA PATH; 1 given", " first-path");
+    told("first-path vendor.schema Dent --hex", "first-path takes no --hex", " first-path");
+    told("first-path - sheet:-", "standard input can be lent only once", " first-path");
+    told("same-path vendor.schema Dent", "expected SCHEMA PATH PATH; 2 given", " same-path");
+    told("same-path vendor.schema Dent Dent -o a", "same-path takes no --output", " same-path");
     told("same-path - sheet:- A", "standard input can be lent only once", " same-path");
     told("why vendor.schema Dent", "expected SCHEMA PATH PATH; 2 given", " why");
     told("why vendor.schema Dent Dent --tray 1", "why takes no --tray", " why");
@@ -64,6 +69,7 @@ fn help_goes_to_standard_output() {
         "pi",
         "match",
         "turn",
+        "first-path",
         "same-path",
         "why",
         "draw",
@@ -163,15 +169,6 @@ fn unchecked_packing_takes_what_the_check_refuses() {
     folder.sheet("pack --unchecked schema ring.schema -o ring.sheet").silent();
     assert_eq!(folder.read("ring.sheet"), hex("10 40 00 04 40"));
     assert_eq!(folder.sheet("check schema ring.sheet").status(), 1);
-}
-
-#[test]
-fn same_path_answers_on_standard_output() {
-    let folder = Folder::with_example("same-path", "book");
-    let ask = |p: &str, q: &str| folder.sheet(&format!("same-path operator.schema {p} {q}"));
-    ask("Anomaly.joint.upstream", "Anomaly.reference").printed("equal\n");
-    ask("Anomaly.joint", "Anomaly.reference").printed("unequal\n");
-    ask("Joint", "Joint").printed("equal\n");
 }
 
 #[test]

@@ -37,8 +37,8 @@ fn accepted(random: &mut Random, call: Call) -> Question {
             question.list = Some(Lent::from_sheet("list.sheet", raw));
         }
         let path = Path::trivial(0).to_sheet().unwrap();
-        question.first_path = Some(Lent::from_sheet("p.sheet", path.clone()));
-        question.second_path = Some(Lent::from_sheet("q.sheet", path));
+        question.p = Some(Lent::from_sheet("p.sheet", path.clone()));
+        question.q = Some(Lent::from_sheet("q.sheet", path));
         question.call = call;
         return question;
     }
@@ -66,16 +66,17 @@ fn set(question: &mut Question, role: Role, sheet: Vec<u8>) {
         Role::Mapping => question.mapping = lent,
         Role::Run => question.run = lent,
         Role::Book => question.book = lent,
-        Role::FirstPath => question.first_path = lent,
-        Role::SecondPath => question.second_path = lent,
+        Role::P => question.p = lent,
+        Role::Q => question.q = lent,
         Role::List => question.list = lent,
     }
 }
 
-const CALLS: [Call; 12] = [
+const CALLS: [Call; 13] = [
     Call::CheckSchema,
     Call::CheckMapping,
     Call::CheckInstance,
+    Call::FirstPath,
     Call::SamePath,
     Call::PathChain,
     Call::Delta,
@@ -119,7 +120,7 @@ fn the_cause_is_found_along_mappings_at_random() {
         question.run = Some(Lent::from_sheet("run.sheet", run.to_sheet().unwrap()));
         question.book = Some(Lent::from_sheet("book.sheet", book.to_sheet().unwrap()));
         question.list = Some(Lent::from_sheet("list.sheet", vec![0; random.below(6)]));
-        for call in CALLS.into_iter().filter(|call| !call.roles().contains(&Role::FirstPath)) {
+        for call in CALLS.into_iter().filter(|call| !call.roles().contains(&Role::P)) {
             question.call = call;
             met[cause_is_found(&question, seed)] += 1;
         }

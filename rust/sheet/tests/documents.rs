@@ -68,7 +68,7 @@ fn the_pages_show_what_the_command_does() {
         pages += 1;
     }
     assert_eq!(pages, 5);
-    assert_eq!(of_the_book, 3);
+    assert_eq!(of_the_book, 8);
 }
 
 #[test]

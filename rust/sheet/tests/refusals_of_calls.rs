@@ -169,15 +169,20 @@ fn refusal_15_overfull() {
         "link Pair.weld -> Weld",
     ];
     folder.write("pairs.schema", lines(&pairs));
+    let equal = ["link Pair.same -> Joint", "equation Pair.joint = Pair.same"];
+    folder.write("equal.schema", lines(&pairs) + &lines(&equal));
     folder.write("parts.mapping", "Joint -> Joint\nWeld -> Weld\n");
     folder.write("run/Joint.csv", bare_rows(30));
     folder.write("run/Weld.csv", bare_rows(20));
-    folder.sheet("pi parts.schema pairs.schema parts.mapping run").refused(
-        "run: a row of Pair is a fitting choice of one row each from Joint (30 rows), Weld (20 rows): up to 600 rows, at most 512 in all tables (15, overfull)
+    // Equal paths are one way to a table.
+    for t in ["pairs.schema", "equal.schema"] {
+        folder.sheet(&format!("pi parts.schema {t} parts.mapping run")).refused(
+            "run: a row of Pair is a fitting choice of one row each from Joint (30 rows), Weld (20 rows): up to 600 rows, at most 512 in all tables (15, overfull)
 pi refused, place 0: a migrated instance has more than 512 rows
 mend: lend a run with fewer rows in these tables
 ",
-    );
+        );
+    }
     folder.write("one.schema", "node Part\n");
     folder.write("one.mapping", "Joint -> Part\nWeld -> Part\n");
     folder.write("book/Part.csv", bare_rows(300));

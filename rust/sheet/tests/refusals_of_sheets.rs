@@ -38,7 +38,7 @@ fn refusal_2_tail() {
     folder.write("long.sheet", hex("01 00 00"));
     folder.run(&["same-path", "vendor.schema", "Dent.joint", "sheet:long.sheet"], b"").refused(
         "long.sheet: 1 byte follows the last field, which ends in byte 2 (2, tail)
-same_path refused sheet 3, the second path (long.sheet): a filling bit is 1, or a byte follows
+same-path refused sheet 3, the second path (long.sheet): a filling bit is 1, or a byte follows
 mend: lend its first 2 bytes alone
 ",
     );
@@ -125,7 +125,7 @@ mend: correct the link or add the node
     folder.write("astray.sheet", hex("11 00"));
     folder.run(&["same-path", "good.schema", "sheet:astray.sheet", "B"], b"").refused(&format!(
         "astray.sheet: path B.x has come to B, where link A.x does not start (4, stray)
-same_path refused sheet 2, the first path (astray.sheet): {because}
+same-path refused sheet 2, the first path (astray.sheet): {because}
 mend: name a node, and links that lead on from it
 "
     ));

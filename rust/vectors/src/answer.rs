@@ -9,8 +9,8 @@ pub const FILLING: u8 = 0xA5;
 /// What a call gives and leaves behind.
 #[derive(Debug, Clone, PartialEq, Eq)]
 pub struct Outcome {
-    /// For an accepted call the byte length of its result; 1 for equal paths; 0
-    /// for unequal ones, of which there is no chain either, and for a check.
+    /// For an accepted call the byte length of its result; 0 for a check, and where
+    /// there is no chain.
     pub answer: Result<usize, Refusal>,
     /// The whole tray afterwards.
     pub tray: Vec<u8>,
@@ -32,6 +32,7 @@ impl Outcome {
 fn result(case: &Case) -> Result<Option<Vec<u8>>, Refusal> {
     let sheets: Vec<&[u8]> = case.sheets.iter().map(Vec::as_slice).collect();
     let sheet = match (case.call, sheets.as_slice()) {
+        (Call::FirstPath, [s, p]) => first_path(s, p),
         (Call::Delta, [s, t, f, j]) => delta(s, t, f, j),
         (Call::Sigma, [s, t, f, i]) => sigma(s, t, f, i),
         (Call::Pi, [s, t, f, i]) => pi(s, t, f, i),
@@ -50,7 +51,6 @@ fn number(case: &Case) -> Result<usize, Refusal> {
         (Call::CheckSchema, [s]) => check_schema(s).map(|()| 0),
         (Call::CheckMapping, [s, t, f]) => check_mapping(s, t, f).map(|()| 0),
         (Call::CheckInstance, [s, i]) => check_instance(s, i).map(|()| 0),
-        (Call::SamePath, [s, p, q]) => same_path(s, p, q).map(usize::from),
         (Call::CheckPushed, [s, t, f, run, book, list]) => {
             check_pushed(s, t, f, run, book, list).map(|()| 0)
         }

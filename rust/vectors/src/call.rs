@@ -9,8 +9,8 @@ pub enum Call {
     CheckMapping,
     /// A schema, an instance of it.
     CheckInstance,
-    /// A schema, two paths.
-    SamePath,
+    /// A schema, a path; a tray.
+    FirstPath,
     /// S, T, a mapping, an instance of T; a tray.
     Delta,
     /// S, T, a mapping, an instance of S; a tray.
@@ -52,7 +52,7 @@ impl Call {
         Call::CheckSchema,
         Call::CheckMapping,
         Call::CheckInstance,
-        Call::SamePath,
+        Call::FirstPath,
         Call::Delta,
         Call::Sigma,
         Call::Pi,
@@ -69,7 +69,7 @@ impl Call {
             Call::CheckSchema => "check_schema",
             Call::CheckMapping => "check_mapping",
             Call::CheckInstance => "check_instance",
-            Call::SamePath => "same_path",
+            Call::FirstPath => "first_path",
             Call::Delta => "delta",
             Call::Sigma => "sigma",
             Call::Pi => "pi",
@@ -90,7 +90,8 @@ impl Call {
             Call::CheckSchema => &[Schema],
             Call::CheckMapping => &[Schema, Schema, Mapping],
             Call::CheckInstance => &[Schema, InstanceOfS],
-            Call::SamePath | Call::PathChain => &[Schema, Path, Path],
+            Call::FirstPath => &[Schema, Path],
+            Call::PathChain => &[Schema, Path, Path],
             Call::Delta => &[Schema, Schema, Mapping, InstanceOfT],
             Call::Sigma | Call::Pi => &[Schema, Schema, Mapping, InstanceOfS],
             Call::CheckPushed | Call::CheckRaw | Call::PushedToRaw | Call::RawToPushed => {
@@ -102,7 +103,7 @@ impl Call {
     /// Whether the call writes a result into a tray.
     pub fn has_tray(self) -> bool {
         use Call::*;
-        matches!(self, Delta | Sigma | Pi | PushedToRaw | RawToPushed | PathChain)
+        matches!(self, FirstPath | Delta | Sigma | Pi | PushedToRaw | RawToPushed | PathChain)
     }
 }
 
@@ -125,6 +126,9 @@ impl Case {
 
     /// The most bytes that a result has: those of the longest sheet of an instance.
     pub const MOST_RESULT: usize = 51_220;
+
+    /// The most bytes that a path has: 8 bits and 5 for each of 15 edges.
+    pub const MOST_PATH: usize = 11;
 
     /// The most bytes that a chain has: 8 bits and 10 for each of 255 steps.
     pub const MOST_CHAIN: usize = 320;

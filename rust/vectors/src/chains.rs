@@ -28,11 +28,6 @@ impl Question {
     }
 }
 
-/// A question in a schema.
-fn ask(schema: &Schema, from: Path, to: Path) -> Question {
-    Question { schema: schema.clone(), from, to }
-}
-
 /// 17 edges from 0 to 1 and 13 from 1 to 2, 28 equations.  Each path of two edges
 /// has its two neighbours and no other: the last edges are equal one to the next,
 /// and the first edges where a row of 13 ends.  The chain from end to end has 220
@@ -45,7 +40,7 @@ pub fn long_way() -> Question {
         equation(0, &[row, end], &[row + 1, end])
     };
     schema.equations = along.chain((0..16).map(turn)).collect();
-    ask(&schema, path(0, &[0, 17]), path(0, &[16, 29]))
+    Question::new(&schema, path(0, &[0, 17]), path(0, &[16, 29]))
 }
 
 /// The same with an edge from 0 to 2 that equals each end: 256 paths, of which 223
@@ -54,7 +49,7 @@ pub fn longer_way() -> Question {
     let Question { mut schema, from, to } = long_way();
     schema.edges.extend([Edge { source: 0, target: 2 }; 2]);
     schema.equations.extend([equation(0, &from.edges, &[30]), equation(0, &to.edges, &[31])]);
-    ask(&schema, path(0, &[30]), path(0, &[31]))
+    Question::new(&schema, path(0, &[30]), path(0, &[31]))
 }
 
 /// Equation 31, direction 1, after as many edges as can be before a part of 1, 2,
@@ -69,7 +64,7 @@ fn largest_numbers() -> Vec<Case> {
         let first = 15 - length;
         schema.equations = vec![equation(15, &[], &[]); 31];
         schema.equations.push(equation(first, &other[first..], &whole[first..]));
-        ask(&schema, path(0, &whole), path(0, &other))
+        Question::new(&schema, path(0, &whole), path(0, &other))
             .chain(format!("equation 31 back after {first} edges"))
     };
     [1, 2, 14, 15].map(part).to_vec()
@@ -77,7 +72,7 @@ fn largest_numbers() -> Vec<Case> {
 
 /// Edges h 0 to 1, g 1 to 3, a 1 to 2, b 2 to 3, c and d 3 to 4, and two
 /// equations: g is ab, and c is d.
-fn detour(turned: bool) -> Schema {
+pub(crate) fn detour(turned: bool) -> Schema {
     let mut schema = graph(5, &[(0, 1), (1, 3), (1, 2), (2, 3), (3, 4), (3, 4)]);
     schema.equations = vec![equation(1, &[1], &[2, 3]), equation(3, &[4], &[5])];
     if turned {
@@ -90,14 +85,14 @@ fn detour(turned: bool) -> Schema {
 fn two_steps() -> Vec<Case> {
     let (hgc, habd) = (path(0, &[0, 1, 4]), path(0, &[0, 2, 3, 5]));
     let both = |turned: bool| {
-        let question = ask(&detour(turned), hgc.clone(), habd.clone());
+        let question = Question::new(&detour(turned), hgc.clone(), habd.clone());
         [question.clone().chain("two steps"), question.turned().chain("two steps back")]
     };
     [both(false), both(true)].concat()
 }
 
 /// Four parallel edges with these equations.
-fn four_edges(rules: &[(usize, usize)]) -> Schema {
+pub(crate) fn four_edges(rules: &[(usize, usize)]) -> Schema {
     let mut schema = graph(2, &[(0, 1); 4]);
     let rule = |&(left, right): &(usize, usize)| equation(0, &[left], &[right]);
     schema.equations = rules.iter().map(rule).collect();
@@ -116,7 +111,7 @@ fn first_of_several() -> Vec<Case> {
         ("equations that change nothing", &[(0, 0), (3, 3), (1, 1), (0, 1), (1, 3)]),
     ];
     let both = |(name, rules): (&str, &[(usize, usize)])| {
-        let question = ask(&four_edges(rules), path(0, &[0]), path(0, &[3]));
+        let question = Question::new(&four_edges(rules), path(0, &[0]), path(0, &[3]));
         [question.clone().chain(name), question.turned().chain(name)]
     };
     rules.map(both).concat()
@@ -126,7 +121,7 @@ fn first_of_several() -> Vec<Case> {
 /// between the two.
 fn unequal_paths() -> Vec<Case> {
     let schema = detour(false);
-    let chain = |name: &str, from: Path, to: Path| ask(&schema, from, to).chain(name);
+    let chain = |name: &str, from: Path, to: Path| Question::new(&schema, from, to).chain(name);
     vec![
         chain("a path and itself", path(0, &[0, 1, 4]), path(0, &[0, 1, 4])),
         chain("a trivial path and itself", path(4, &[]), path(4, &[])),
@@ -134,21 +129,25 @@ fn unequal_paths() -> Vec<Case> {
         chain("another start", path(1, &[1]), path(2, &[3])),
         chain("another end", path(1, &[1]), path(1, &[1, 4])),
         chain("another start and end", path(0, &[0]), path(1, &[1])),
-        ask(&four_edges(&[(0, 1), (2, 3)]), path(0, &[0]), path(0, &[3])).chain("no equation"),
+        Question::new(&four_edges(&[(0, 1), (2, 3)]), path(0, &[0]), path(0, &[3]))
+            .chain("no equation"),
     ]
 }
 
 /// Trays of every length up to two bytes more than the chain has, and for the
-/// longest chain around its length; without a chain of 0 to 2 bytes.
+/// longest chain around its length; without a chain, where the end, the start or no
+/// equation is why, of 0 to 2 bytes.
 fn trays() -> Vec<Case> {
-    let two_steps = ask(&detour(false), path(0, &[0, 1, 4]), path(0, &[0, 2, 3, 5]));
+    let two_steps = Question::new(&detour(false), path(0, &[0, 1, 4]), path(0, &[0, 2, 3, 5]));
     let no_steps = Question { to: two_steps.from.clone(), ..two_steps.clone() };
-    let none = Question { to: path(0, &[]), ..two_steps.clone() };
+    let other_end = Question { to: path(0, &[]), ..two_steps.clone() };
+    let other_start = Question { to: path(1, &[1, 4]), ..two_steps.clone() };
+    let no_equation = Question::new(&four_edges(&[(0, 1)]), path(0, &[0]), path(0, &[3]));
     let case = |question: &Question, length: usize| {
         question.chain(format!("a tray of {length}")).with_tray(length)
     };
     let mut cases = Vec::new();
-    for question in [two_steps, no_steps, none] {
+    for question in [two_steps, no_steps, other_end, other_start, no_equation] {
         let needed = result_length(&case(&question, 0)).unwrap_or(0);
         cases.extend((0..needed + 3).map(|length| case(&question, length)));
     }

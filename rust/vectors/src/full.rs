@@ -20,7 +20,7 @@ pub fn base() -> Vec<Case> {
         (Call::CheckSchema, vec![s.clone()]),
         (Call::CheckMapping, vec![s.clone(), t.clone(), f.clone()]),
         (Call::CheckInstance, vec![s.clone(), run.clone()]),
-        (Call::SamePath, vec![s.clone(), trivial.clone(), trivial.clone()]),
+        (Call::FirstPath, vec![s.clone(), trivial.clone()]),
         (Call::PathChain, vec![s.clone(), trivial.clone(), trivial]),
         (Call::Delta, mapped(&book)),
         (Call::Sigma, mapped(&run)),
@@ -35,7 +35,11 @@ pub fn base() -> Vec<Case> {
 
 /// The case of a size, with a tray that holds every result.
 fn with_room(size: &str, call: Call, sheets: Vec<Vec<u8>>) -> Case {
-    let most = if call == Call::PathChain { Case::MOST_CHAIN } else { Case::MOST_RESULT };
+    let most = match call {
+        Call::FirstPath => Case::MOST_PATH,
+        Call::PathChain => Case::MOST_CHAIN,
+        _ => Case::MOST_RESULT,
+    };
     Case::new(format!("{size}.{}", call.name()), call, sheets).with_tray(most)
 }
 
@@ -118,7 +122,7 @@ pub fn full() -> Vec<Case> {
         (Call::CheckSchema, vec![s.clone()]),
         (Call::CheckMapping, vec![s.clone(), t.clone(), f.clone()]),
         (Call::CheckInstance, vec![s.clone(), run.clone()]),
-        (Call::SamePath, vec![s.clone(), p.clone(), q.clone()]),
+        (Call::FirstPath, vec![s.clone(), q.clone()]),
         (Call::PathChain, vec![s.clone(), p, q]),
         (Call::Delta, mapped(&book)),
         (Call::Sigma, mapped(&run)),

@@ -6,7 +6,7 @@
 //! two rows all that their links lead to.  Every instance comes about this way.
 
 use crate::random::Random;
-use reference::paths::Classes;
+use reference::classes::Classes;
 use reference::plain::*;
 
 /// A value of a kind: now and then the largest or any, else the smallest or one of
@@ -64,8 +64,7 @@ impl Tables {
     /// Adds a row at `node` with a row for each class of paths from there; not
     /// if there would be too many.
     fn generate(&mut self, schema: &Schema, classes: &Classes, node: usize) -> bool {
-        let firsts: Vec<&Path> =
-            classes.from(node).filter(|p| classes.first(classes.class(p)) == *p).collect();
+        let firsts: Vec<&Path> = classes.from(node).filter(|p| classes.first(p) == *p).collect();
         if self.count() + firsts.len() > Instance::MOST_ROWS {
             return false;
         }
@@ -73,13 +72,13 @@ impl Tables {
         let mut row_of = std::collections::BTreeMap::new();
         for p in &firsts {
             let table = &mut self.merged[end(p)];
-            row_of.insert(classes.class(p), table.len());
+            row_of.insert(*p, table.len());
             table.push(table.len());
         }
         for p in &firsts {
             for edge in schema.edges_from(end(p)) {
                 let next = p.followed_by(&Path::along(schema, edge));
-                self.links[edge].push(row_of[&classes.class(&next)]);
+                self.links[edge].push(row_of[classes.first(&next)]);
             }
         }
         true

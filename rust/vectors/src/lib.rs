@@ -5,8 +5,9 @@
 //!   accepted, [`world`] sets of them that fit together, [`questions`] two paths of
 //!   a schema in which many are equal;
 //! - [`damage`] makes one sheet of such a set one that is sent back;
-//! - [`papers`], [`full`], [`limits`], [`chains`], [`puzzles`], [`stream`] are the cases,
-//!   [`record`] the vector file and [`report`] their count by outcome;
+//! - [`papers`], [`full`], [`limits`], [`first_paths`], [`chains`], [`puzzles`], [`stream`]
+//!   are the cases, [`record`] the vector file and [`report`] their count by outcome;
+//! - [`path_questions`] are the stored ones about two paths, with their answers;
 //! - [`rules`] makes sheets of a puzzle, [`kinds`] has puzzles of six kinds and any
 //!   size with their solutions, which [`modular`] finds for some, and [`hard`] the
 //!   cases that are hardest for Pi, with what they may take.
@@ -21,6 +22,7 @@ pub mod call;
 pub mod chains;
 pub mod damage;
 pub mod even;
+pub mod first_paths;
 pub mod full;
 pub mod hard;
 pub mod instances;
@@ -29,6 +31,7 @@ pub mod limits;
 pub mod mappings;
 pub mod modular;
 pub mod papers;
+pub mod path_questions;
 pub mod puzzles;
 pub mod questions;
 pub mod random;

@@ -5,7 +5,9 @@ use crate::base::*;
 use crate::build::*;
 use crate::call::{Call, Case};
 use crate::chains::chains;
+use crate::first_paths::first_paths;
 use crate::puzzles::complete_graph;
+use crate::questions::Question;
 use reference::plain::*;
 
 /// All limits, on sheets that are not long.
@@ -22,6 +24,7 @@ pub fn limits() -> Vec<Case> {
     cases.extend(long_lifts());
     cases.extend([(4, 3, 6), (4, 4, 1), (4, 4, 6)].map(|(v, c, n)| complete_graph(v, c, n)));
     cases.extend(trays());
+    cases.extend(first_paths());
     cases.extend(chains());
     cases
 }
@@ -103,26 +106,24 @@ fn many_paths() -> Vec<Case> {
     let mut free = full.clone();
     free.equations.clear();
     let same = identity(&full).to_sheet();
+    let ask = |s: &Schema| {
+        let (one, other) = (path(0, &[0, 2, 4, 6, 8]), path(0, &[1, 3, 5, 7, 9]));
+        Question::new(s, one, other).firsts("two of 256 paths")
+    };
+    let asked = [ask(&full), ask(&free)].concat();
     let (full, crowd, free) = (full.to_sheet(), crowd.to_sheet(), free.to_sheet());
-    let (one, other) = (path(0, &[0, 2, 4, 6, 8]), path(0, &[1, 3, 5, 7, 9]));
-    let (one, other) = (one.to_sheet(), other.to_sheet());
     let check = |name: &str, s: &Vec<u8>, t: &Vec<u8>| {
         Case::new(name, Call::CheckMapping, vec![s.clone(), t.clone(), same.clone()])
     };
-    let ask = |s: &Vec<u8>| {
-        let sheets = vec![s.clone(), one.clone(), other.clone()];
-        Case::new("two of 256 paths", Call::SamePath, sheets)
-    };
-    vec![
+    let checked = vec![
         Case::new("256 paths, 32 equations", Call::CheckSchema, vec![full.clone()]),
         Case::new("more than 256 paths", Call::CheckSchema, vec![crowd.clone()]),
         check("256 paths to themselves", &full, &full),
         check("256 paths without equations to those with", &free, &full),
         check("256 paths with equations to those without", &full, &free),
         check("too many paths of T", &full, &crowd),
-        ask(&full),
-        ask(&free),
-    ]
+    ];
+    [checked, asked].concat()
 }
 
 /// Both sides of both ends of each kind, each in a run after the kind's smallest
@@ -156,16 +157,15 @@ fn long_paths() -> Vec<Case> {
     let f = mapping(&[0, 15], &[&whole]);
     let book = instance(&[2; 16], &[[1usize, 0].as_slice(); 15]);
     let run = instance(&[2, 2], &[&[1, 0]]);
-    let (p, q) = (path(0, &whole).to_sheet(), path(0, &whole[..14]).to_sheet());
+    let asked = Question::new(&chain, path(0, &whole), path(0, &whole[..14]));
     let mapped = vec![edge.to_sheet(), chain.to_sheet(), f.to_sheet()];
     let with = |more: Instance| [mapped.clone(), vec![more.to_sheet()]].concat();
-    vec![
-        Case::new("15 edges", Call::SamePath, vec![chain.to_sheet(), p.clone(), p.clone()]),
-        Case::new("15 and 14 edges", Call::SamePath, vec![chain.to_sheet(), p, q]),
+    let migrated = [
         Case::new("an image of 15 edges", Call::Delta, with(book)).with_tray(99),
         Case::new("an image of 15 edges", Call::Pi, with(run.clone())).with_tray(99),
         Case::new("an image of 15 edges", Call::Sigma, with(run)).with_tray(99),
-    ]
+    ];
+    [&asked.firsts("15 and 14 edges")[..], &migrated].concat()
 }
 
 fn rows_of_instances() -> Vec<Case> {

@@ -2,7 +2,8 @@
 
 use crate::random::Random;
 use crate::schemas::{add_attributes, add_equations, graph, is_accepted, woven};
-use reference::paths::{all_paths, Classes};
+use reference::classes::Classes;
+use reference::paths::all_paths;
 use reference::plain::*;
 
 /// A mapping with its two schemas.
@@ -42,8 +43,8 @@ pub fn mapping(random: &mut Random, loose: bool) -> Mapped {
         let edges = images_of_edges(random, &mut s, &t, &nodes);
         let mut f = Mapping { nodes, edges, attributes: vec![] };
         let classes = Classes::of(&t);
-        let image_class = |p: &Path| classes.class(&f.path_image(p));
-        add_equations(random, &mut s, 3, |p, q| image_class(p) == image_class(q));
+        let image = |p: &Path| classes.first(&f.path_image(p));
+        add_equations(random, &mut s, 3, |p, q| image(p) == image(q));
         pair_attributes(random, &mut s, &mut t, &mut f, loose);
         if is_accepted(&t) {
             return Mapped { s, t, f };

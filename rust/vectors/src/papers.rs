@@ -4,6 +4,7 @@
 use crate::base::*;
 use crate::build::*;
 use crate::call::{Call, Case};
+use crate::questions::Question;
 use reference::plain::*;
 
 /// Cases 1 to 12, each under its number.
@@ -87,37 +88,31 @@ fn pairs() -> Vec<Case> {
 
 /// Cases 7 and 8, and which equations make the paths equal.
 fn squares() -> Vec<Case> {
-    let ask = |call: Call, name: &str, rule: Equation, p: &[usize], q: &[usize]| {
+    let ask = |name: &str, rule: Equation, p: &[usize], q: &[usize]| {
         let mut schema = graph(5, &[(0, 1), (1, 3), (0, 2), (2, 3), (3, 4)]);
         schema.equations.push(rule);
-        let sheets = vec![schema.to_sheet(), path(0, p).to_sheet(), path(0, q).to_sheet()];
-        Case::new(name, call, sheets).with_tray(4)
+        let question = Question::new(&schema, path(0, p), path(0, q));
+        let [of_p, of_q] = question.firsts(name).map(|case| case.with_tray(4));
+        [of_p, of_q, question.chain(name).with_tray(4)]
     };
     let short = || equation(0, &[0, 1], &[2, 3]);
     let long = || equation(0, &[0, 1, 4], &[2, 3, 4]);
-    let asked = |call: Call| {
-        [
-            ask(call, "case 7: abf, cdf", short(), &[0, 1, 4], &[2, 3, 4]),
-            ask(call, "case 7: ab, cd", short(), &[0, 1], &[2, 3]),
-            ask(call, "case 8: ab, cd", long(), &[0, 1], &[2, 3]),
-            ask(call, "case 8: abf, cdf", long(), &[0, 1, 4], &[2, 3, 4]),
-        ]
-    };
-    [asked(Call::SamePath), asked(Call::PathChain)].concat()
+    let asked = [
+        ask("case 7: abf, cdf", short(), &[0, 1, 4], &[2, 3, 4]),
+        ask("case 7: ab, cd", short(), &[0, 1], &[2, 3]),
+        ask("case 8: ab, cd", long(), &[0, 1], &[2, 3]),
+        ask("case 8: abf, cdf", long(), &[0, 1, 4], &[2, 3, 4]),
+    ];
+    asked.concat()
 }
 
 /// Case 9.
 fn ends() -> Vec<Case> {
     let right = path(0, &[0]).to_sheet();
     let long = [right.clone(), vec![0]].concat();
-    let ask = |p: &Vec<u8>, q: &Vec<u8>| {
-        Case::new("case 9: path", Call::SamePath, vec![base_s(), p.clone(), q.clone()])
-    };
-    vec![
-        Case::new("case 9: schema", Call::CheckSchema, vec![vec![]]),
-        ask(&long, &right),
-        ask(&right, &long),
-    ]
+    let ask =
+        |p: Vec<u8>| Case::new("case 9: path", Call::FirstPath, vec![base_s(), p]).with_tray(4);
+    vec![Case::new("case 9: schema", Call::CheckSchema, vec![vec![]]), ask(long), ask(right)]
 }
 
 /// Cases 10 and 11.

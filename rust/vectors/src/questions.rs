@@ -20,10 +20,29 @@ pub struct Question {
 }
 
 impl Question {
-    /// The sheets that the path question and the call for a chain are lent.
+    /// A question in a schema.
+    pub fn new(schema: &Schema, from: Path, to: Path) -> Self {
+        Question { schema: schema.clone(), from, to }
+    }
+
+    /// The sheets that the call for a chain is lent.
     pub fn lent(&self) -> Vec<Sheet> {
         let Question { schema, from, to } = self.clone();
         vec![Sheet::Schema(schema), Sheet::Path(from), Sheet::Path(to)]
+    }
+
+    /// The sheets that the call for a first path is lent, for each of the paths.
+    pub fn lent_in_turn(&self) -> [Vec<Sheet>; 2] {
+        [&self.from, &self.to]
+            .map(|path| vec![Sheet::Schema(self.schema.clone()), Sheet::Path(path.clone())])
+    }
+
+    /// The questions for the first path of each, with trays that hold every path.
+    pub fn firsts(&self, name: &str) -> [Case; 2] {
+        self.lent_in_turn().map(|lent| {
+            let sheets = lent.iter().map(Sheet::bytes).collect();
+            Case::new(name, Call::FirstPath, sheets).with_tray(Case::MOST_PATH)
+        })
     }
 
     /// The question for a chain, with a tray that holds every chain.

@@ -35,7 +35,7 @@ pub fn stored_cases() -> Vec<Case> {
 }
 
 /// So many of the stored cases are made by chance.
-const CASES_BY_CHANCE: usize = 3000;
+const CASES_BY_CHANCE: usize = 2800;
 
 /// None of these is longer than so many bytes.
 const MOST_RECORD_BY_CHANCE: usize = 1000;

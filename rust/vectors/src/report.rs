@@ -11,9 +11,7 @@ use std::fmt;
 pub enum End {
     /// Accepted.
     Accepted,
-    /// The path question's yes.
-    Equal,
-    /// The path question's no, and that there is no chain.
+    /// Accepted, and there is no chain.
     Unequal,
     /// Refused, with place and number.
     Refused {
@@ -28,8 +26,7 @@ impl End {
     /// How a call ended.
     pub fn of(call: Call, outcome: &Outcome) -> Self {
         match (call, outcome.answer) {
-            (Call::SamePath | Call::PathChain, Ok(0)) => End::Unequal,
-            (Call::SamePath, Ok(_)) => End::Equal,
+            (Call::PathChain, Ok(0)) => End::Unequal,
             (_, Ok(_)) => End::Accepted,
             (_, Err(Refusal { number, place })) => End::Refused { place, number },
         }
@@ -40,7 +37,6 @@ impl fmt::Display for End {
     fn fmt(&self, out: &mut fmt::Formatter<'_>) -> fmt::Result {
         match self {
             End::Accepted => write!(out, "accepted"),
-            End::Equal => write!(out, "equal"),
             End::Unequal => write!(out, "unequal"),
             End::Refused { place, number } => write!(out, "refused {number} {place}"),
         }

@@ -159,7 +159,8 @@ fn accepted(random: &mut Random, call: Call) -> (Case, usize) {
 }
 
 /// Cases by chance, without end: for each world every call on its sheets as they
-/// are and on damaged ones, and for each tenth a puzzle for Pi.
+/// are and on damaged ones, for first paths on two, and for each tenth a puzzle for
+/// Pi.
 pub struct Chance {
     random: Random,
     worlds: u64,
@@ -185,13 +186,14 @@ impl Chance {
             cases.push(puzzle.with_tray(tray));
         }
         for call in Call::ALL {
-            let lent = world.lent(random, call);
-            let name = |what: &str| format!("world {}, {what}", self.worlds);
-            let whole = Case::new(name("as it is"), call, sheets(&lent));
-            let tray = some_tray(random, &whole);
-            cases.push(whole.with_tray(tray));
-            let (what, sheets) = by_chance(random, call, &lent);
-            cases.push(Case::new(name(&what), call, sheets).with_tray(tray));
+            for lent in world.lent_each(random, call) {
+                let name = |what: &str| format!("world {}, {what}", self.worlds);
+                let whole = Case::new(name("as it is"), call, sheets(&lent));
+                let tray = some_tray(random, &whole);
+                cases.push(whole.with_tray(tray));
+                let (what, sheets) = by_chance(random, call, &lent);
+                cases.push(Case::new(name(&what), call, sheets).with_tray(tray));
+            }
         }
         cases
     }

@@ -5,10 +5,11 @@ use crate::call::{Call, Kind};
 use crate::even::{copies, even_mapping};
 use crate::instances::{beside, instance, no_rows, shuffled};
 use crate::mappings::{mapping, Mapped};
-use crate::questions::any_question;
+use crate::questions::{any_question, Question};
 use crate::random::Random;
+use reference::classes::Classes;
 use reference::migrate;
-use reference::paths::{all_paths, Classes};
+use reference::paths::all_paths;
 use reference::plain::*;
 
 /// A sheet before it is written down.
@@ -133,8 +134,26 @@ impl World {
         World { mapped, run, book, pushed, raw }
     }
 
-    /// What a call is lent.  The calls with one schema are lent S or T; the one for
-    /// a chain mostly a schema with longer chains.
+    /// Two paths of one schema: mostly of one in which many are equal, else of S or T.
+    fn question(&self, random: &mut Random) -> Question {
+        if !random.once_in(3) {
+            return any_question(random);
+        }
+        let schema = if random.once_in(2) { &self.mapped.s } else { &self.mapped.t };
+        let [from, to] = two_paths(random, schema);
+        Question::new(schema, from, to)
+    }
+
+    /// What a call is lent; for first paths two such, with two paths of one schema.
+    pub fn lent_each(&self, random: &mut Random, call: Call) -> Vec<Vec<Sheet>> {
+        match call {
+            Call::FirstPath => self.question(random).lent_in_turn().to_vec(),
+            _ => vec![self.lent(random, call)],
+        }
+    }
+
+    /// What a call is lent.  The calls with one schema are lent S or T, those with
+    /// paths mostly another.
     pub fn lent(&self, random: &mut Random, call: Call) -> Vec<Sheet> {
         let World { mapped: Mapped { s, t, f }, run, book, pushed, raw } = self;
         let list = match call {
@@ -143,16 +162,13 @@ impl World {
         };
         let of_s = random.once_in(2);
         let (schema, rows) = if of_s { (s, run) } else { (t, book) };
-        let [p, q] = two_paths(random, schema);
         match call {
             Call::CheckSchema => vec![Sheet::Schema(schema.clone())],
             Call::CheckInstance => {
                 vec![Sheet::Schema(schema.clone()), Sheet::Instance(rows.clone())]
             }
-            Call::PathChain if !random.once_in(3) => any_question(random).lent(),
-            Call::SamePath | Call::PathChain => {
-                vec![Sheet::Schema(schema.clone()), Sheet::Path(p), Sheet::Path(q)]
-            }
+            Call::FirstPath => self.question(random).lent_in_turn()[0].clone(),
+            Call::PathChain => self.question(random).lent(),
             _ => {
                 let of_kind = |place: usize| match (place, call.sheets()[place]) {
                     (0, _) => Sheet::Schema(s.clone()),
@@ -176,10 +192,10 @@ fn two_paths(random: &mut Random, schema: &Schema) -> [Path; 2] {
     if random.once_in(2) {
         let classes = Classes::of(schema);
         let mut later: Vec<&Path> = paths.iter().collect();
-        later.retain(|p| classes.first(classes.class(p)) != *p);
+        later.retain(|p| classes.first(p) != *p);
         if let Some(p) = random.any_of(&later) {
             let mut others = paths.clone();
-            others.retain(|q| classes.class(q) == classes.class(p) && q != p);
+            others.retain(|q| classes.first(q) == classes.first(p) && q != p);
             return [p.clone(), random.one_of(&others).clone()];
         }
     }

@@ -1,6 +1,7 @@
 //! The chains that the stored cases ask for, and those of a run by chance.
 
 use reference::bits::BitReader;
+use reference::classes::Classes;
 use reference::plain::*;
 use std::collections::BTreeSet;
 use vectors::answer::{reference_outcome, result_length};
@@ -73,8 +74,10 @@ fn the_chains_at_the_limits_are_known() {
 /// The numbers of paths, of equations and of paths equal to the first.
 fn sizes(question: &Question) -> [usize; 3] {
     let Question { schema, from, .. } = question;
-    let paths = reference::paths::all_paths(schema).len();
-    [paths, schema.equations.len(), from.equal_paths(schema).len()]
+    let paths = reference::paths::all_paths(schema);
+    let classes = Classes::of(schema);
+    let equal = paths.iter().filter(|path| classes.first(path) == classes.first(from)).count();
+    [paths.len(), schema.equations.len(), equal]
 }
 
 #[test]

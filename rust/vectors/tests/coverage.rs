@@ -37,8 +37,8 @@ fn numbers_of(kind: Kind) -> &'static [u8] {
 /// as many rows as the run.
 fn numbers_of_no_sheet(call: Call) -> &'static [u8] {
     match call {
-        Call::CheckSchema | Call::CheckMapping | Call::CheckInstance | Call::SamePath => &[],
-        Call::PathChain => &[16],
+        Call::CheckSchema | Call::CheckMapping | Call::CheckInstance => &[],
+        Call::FirstPath | Call::PathChain => &[16],
         Call::Delta => &[15, 16],
         Call::Sigma => &[12, 16],
         Call::Pi => &[13, 14, 15, 16],
@@ -50,7 +50,6 @@ fn numbers_of_no_sheet(call: Call) -> &'static [u8] {
 /// Every end that a call can have.
 fn can_occur(call: Call) -> Vec<End> {
     let mut ends = match call {
-        Call::SamePath => vec![End::Equal, End::Unequal],
         Call::PathChain => vec![End::Accepted, End::Unequal],
         _ => vec![End::Accepted],
     };
@@ -92,7 +91,7 @@ fn every_call_ends_in_every_way_that_it_can_and_in_no_other() {
     for (call, end) in report.met() {
         assert!(can_occur(call).contains(&end), "{} ends {end}", call.name());
     }
-    assert_eq!(Call::ALL.map(|call| can_occur(call).len()).iter().sum::<usize>(), 281);
+    assert_eq!(Call::ALL.map(|call| can_occur(call).len()).iter().sum::<usize>(), 278);
 }
 
 #[test]
@@ -137,14 +136,14 @@ fn the_papers_cases_end_as_it_says() {
     check(Call::CheckMapping, "case 5: mapping", &[Accepted]);
     check(Call::Sigma, "case 5: sigma", &[refused(12, 0)]);
     check(Call::Pi, "case 6: pi", &[Accepted]);
-    check(Call::SamePath, "case 7: abf, cdf", &[Equal]);
-    check(Call::SamePath, "case 8: ab, cd", &[Unequal]);
+    check(Call::FirstPath, "case 7: abf, cdf", &[Accepted, Accepted]);
+    check(Call::FirstPath, "case 8: ab, cd", &[Accepted, Accepted]);
     check(Call::PathChain, "case 7: abf, cdf", &[Accepted]);
     check(Call::PathChain, "case 7: ab, cd", &[Accepted]);
     check(Call::PathChain, "case 8: ab, cd", &[Unequal]);
     check(Call::PathChain, "case 8: abf, cdf", &[Accepted]);
     check(Call::CheckSchema, "case 9: schema", &[refused(1, 1)]);
-    check(Call::SamePath, "case 9: path", &[refused(2, 2), refused(2, 3)]);
+    check(Call::FirstPath, "case 9: path", &[refused(2, 2), Accepted]);
     check(Call::CheckSchema, "case 10: 256 paths", &[Accepted]);
     check(Call::CheckSchema, "case 10: 257 paths", &[refused(6, 1)]);
     check(Call::CheckInstance, "case 11: 512 rows", &[Accepted]);
@@ -407,14 +406,6 @@ fn what_matters_to_the_calls_occurs_among_the_accepted_cases() {
     check(Call::Pi, &OF_PI);
     check(Call::PushedToRaw, &OF_TURNING);
     check(Call::RawToPushed, &OF_TURNING);
-}
-
-#[test]
-fn equal_paths_that_differ_as_lists_occur() {
-    let asked = stored().iter().filter(|(case, outcome)| {
-        case.call == Call::SamePath && outcome.answer == Ok(1) && case.sheets[1] != case.sheets[2]
-    });
-    assert!(asked.count() > 20);
 }
 
 #[test]

@@ -3,7 +3,7 @@ use mathlib.Core.Path.{_≡_, sym, _∙_}
 use mathlib.Core.Bool.{true, false}
 use native.Mathlib.Omega.{arith}
 use Rattle.meaning.specs.Judge.{imagesFit, keepsEquations}
-use Rattle.schema.specs.Decoded.{schemaOf}
+use Rattle.schema.specs.Decoded.{schemaOf, categoryOf}
 use Rattle.mapping.specs.Decoded.{mappingOf}
 use Rattle.mapping.proofs.Judging.{faulty-says, decoded-sound, decoded-faulty}
 use borrow.Author.Needs.{needs}
@@ -36,7 +36,7 @@ returns-2 : tie.Need-returns-2
 returns-2 c =
     let d = c .before .before .before .before .before .before .decode-mapping .ensures in
     let f = fits (c .before .before) in
-    let k : keepsEquations (schemaOf (c .before .before .before .before .before .before .before .before .args .s)) (schemaOf (c .before .before .before .before .before .before .before .before .args .t)) (mappingOf (c .before .before .before .before .before .before .before .before .args .s) (c .before .before .before .before .before .before .decode-mapping .result)) ≡ true = sym (c .before .sides-agree .ensures) ∙ c .if3 .taken in
+    let k : keepsEquations (categoryOf (c .before .before .before .before .before .before .before .before .args .s)) (categoryOf (c .before .before .before .before .before .before .before .before .args .t)) (mappingOf (c .before .before .before .before .before .before .before .before .args .s) (c .before .before .before .before .before .before .decode-mapping .result)) ≡ true = sym (c .before .sides-agree .ensures) ∙ c .if3 .taken in
     record { says = d .says ∙ rw (decoded-sound d (no-fault (c .before .before .before .before)), f, k); sound = λ _. record { short = d .short; fits = f; keeps = k } }
 
 faulty-requires : tie.Need-faulty-requires
@@ -44,7 +44,7 @@ faulty-requires c κs = search needs
 
 returns-3 : tie.Need-returns-3
 returns-3 c =
-    let k : keepsEquations (schemaOf (c .before .before .before .before .before .before .before .before .before .args .s)) (schemaOf (c .before .before .before .before .before .before .before .before .before .args .t)) (mappingOf (c .before .before .before .before .before .before .before .before .before .args .s) (c .before .before .before .before .before .before .before .decode-mapping .result)) ≡ false = sym (c .before .before .sides-agree .ensures) ∙ c .before .if3 .left in
+    let k : keepsEquations (categoryOf (c .before .before .before .before .before .before .before .before .before .args .s)) (categoryOf (c .before .before .before .before .before .before .before .before .before .args .t)) (mappingOf (c .before .before .before .before .before .before .before .before .before .args .s) (c .before .before .before .before .before .before .before .decode-mapping .result)) ≡ false = sym (c .before .before .sides-agree .ensures) ∙ c .before .if3 .left in
     faulty-says (c .faulty .ensures) (λ q. omega arith) (rw (decoded-sound (c .before .before .before .before .before .before .before .decode-mapping .ensures) (no-fault (c .before .before .before .before .before)), fits (c .before .before .before), k))
 
 faulty-requires-2 : tie.Need-faulty-requires-2

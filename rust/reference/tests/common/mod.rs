@@ -3,10 +3,12 @@
 
 #![allow(dead_code, unused_imports)]
 
+use reference::paths::all_paths;
 use reference::plain::*;
-use reference::{path_chain, Refusal};
+use reference::{first_path, path_chain, Refusal};
 pub use vectors::base::*;
 pub use vectors::build::*;
+use vectors::random::Random;
 
 /// A refusal as a result.
 pub fn refused<T>(number: u8, place: u8) -> Result<T, Refusal> {
@@ -44,6 +46,12 @@ fn by_tables(a: &Instance, list: Vec<usize>) -> Matching {
     Matching { partners }
 }
 
+/// The first path equal to `p`, as the call gives it on the sheets of both.
+pub fn first(s: &Schema, p: &Path) -> Path {
+    let sheet = first_path(&s.to_sheet(), &p.to_sheet()).expect("accepted sheets");
+    Path::accept(s, &sheet).expect("a path sheet")
+}
+
 /// A step of a chain as it is written: equation, direction, edges before.
 pub type Numbers = [usize; 3];
 
@@ -63,4 +71,36 @@ pub fn written(steps: &[Numbers]) -> Vec<u8> {
     }
     let byte = |at: usize| u8::from_str_radix(&bits[at..at + 8], 2).unwrap();
     (0..bits.len()).step_by(8).map(byte).collect()
+}
+
+/// One of all paths, rather a longer one.
+pub fn any_path(random: &mut Random, schema: &Schema) -> Path {
+    let paths = all_paths(schema);
+    let [one, other, third] = [(); 3].map(|_| random.one_of(&paths));
+    one.max(other).max(third).clone()
+}
+
+/// A small schema without loops, its nodes in any order.  Equations may have
+/// trivial or identical sides, or come twice.
+pub fn any_schema(random: &mut Random) -> Schema {
+    let count = 2 + random.below(3);
+    let nodes: Vec<usize> = random.shuffled((0..count).collect());
+    let edge = |_| {
+        let target = 1 + random.below(nodes.len() - 1);
+        (nodes[random.below(target)], nodes[target])
+    };
+    let edges: Vec<(usize, usize)> = (0..8).map(edge).collect();
+    let mut schema = graph(nodes.len(), &edges[..2 + random.below(7)]);
+    for _ in 0..random.below(9) {
+        let left = any_path(random, &schema);
+        let right = random.one_of(&alongside(&schema, &left)).clone();
+        schema.equations.push(Equation { left, right });
+    }
+    schema
+}
+
+/// The paths with the start and the end of `p`, itself among them.
+pub fn alongside(schema: &Schema, p: &Path) -> Vec<Path> {
+    let ends = |q: &Path| (q.start, q.end(schema));
+    all_paths(schema).into_iter().filter(|q| ends(q) == ends(p)).collect()
 }

@@ -31,7 +31,7 @@ pub(super) fn goes_to(
     other: &Path,
 ) -> Option<Vec<String>> {
     let schema = t.schema.as_ref().ok()?;
-    let chain = classes::chain(&t.lent.sheet, image, other)??;
+    let chain = classes::chain(&t.lent.sheet, image, other)?;
     let steps = chain.to_lines(t, image)?;
     if steps.is_empty() {
         return None;

@@ -52,12 +52,11 @@ impl Lifting<'_> {
     fn path_causes(&self, node: usize) -> Option<Vec<Cause>> {
         let image = *self.f.nodes.get(node)?;
         let mut causes = Vec::new();
-        for (class, q) in self.t_classes.firsts_from(image) {
-            let over = |(_, p): &(usize, &Path)| {
-                self.f.path_image(p).and_then(|image| self.t_classes.class(&image)) == Some(class)
+        for q in self.t_classes.firsts_from(image) {
+            let over = |p: &&Path| {
+                self.f.path_image(p).and_then(|image| self.t_classes.first(&image)) == Some(q)
             };
-            let lifts: Vec<&Path> =
-                self.s_classes.firsts_from(node).filter(over).map(|(_, p)| p).collect();
+            let lifts: Vec<&Path> = self.s_classes.firsts_from(node).filter(over).collect();
             match lifts.as_slice() {
                 [] => causes.push(self.no_lift(node, q)),
                 [_] => {}

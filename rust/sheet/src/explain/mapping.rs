@@ -2,7 +2,7 @@
 
 use super::equal::equal_to;
 use super::{fault_cause, Cause};
-use crate::classes::{chain, Classes};
+use crate::classes::Classes;
 use crate::kinds;
 use crate::lent::Lent;
 use crate::mapping::Mapping;
@@ -124,7 +124,7 @@ fn broken_rules(question: &Question, mapping: &Mapping) -> Option<Vec<Cause>> {
     for (number, equation) in s_schema.equations.iter().enumerate() {
         let images = [&equation.left, &equation.right].map(|side| mapping.path_image(side));
         let [Some(left), Some(right)] = images else { continue };
-        if chain(&t.lent.sheet, &left, &right) != Some(None) {
+        if t_classes.first(&left) == t_classes.first(&right) {
             continue;
         }
         let notes = [&left, &right].map(|image| equal_to(t_schema, &t_classes, image, "T"));

@@ -118,8 +118,8 @@ impl Question {
             Role::Mapping => mapping::causes(self, number)?,
             Role::Run => instance::causes(self.run.as_ref()?, self.s.as_ref()?, number)?,
             Role::Book => instance::causes(self.book.as_ref()?, self.t.as_ref()?, number)?,
-            Role::FirstPath => path::causes(self.first_path.as_ref()?, self.s_schema()?),
-            Role::SecondPath => path::causes(self.second_path.as_ref()?, self.s_schema()?),
+            Role::P => path::causes(self.p.as_ref()?, self.s_schema()?),
+            Role::Q => path::causes(self.q.as_ref()?, self.s_schema()?),
             Role::List => list::causes(self, number)?,
         })
     }
@@ -144,6 +144,7 @@ impl Question {
         let what = format!("the result needs {needed}, but {lent} were lent");
         let most = match self.call {
             Call::PushedToRaw | Call::RawToPushed => migration::MOST_MATCHING_BYTES,
+            Call::FirstPath => migration::MOST_PATH_BYTES,
             Call::PathChain => migration::MOST_CHAIN_BYTES,
             _ => migration::MOST_INSTANCE_BYTES,
         };
@@ -155,17 +156,16 @@ impl Question {
 /// What a sheet is to a call, in words.
 fn role_name(call: Call, role: Role) -> &'static str {
     match (call, role) {
-        (Call::CheckSchema | Call::CheckInstance | Call::SamePath | Call::PathChain, Role::S) => {
-            "the schema"
-        }
-        (Call::CheckInstance, Role::Run) => "the instance",
+        (_, Role::S) if !call.roles().contains(&Role::T) => "the schema",
         (_, Role::S) => "schema S",
+        (Call::CheckInstance, Role::Run) => "the instance",
         (_, Role::T) => "schema T",
         (_, Role::Mapping) => "the mapping",
         (_, Role::Run) => "the run",
         (_, Role::Book) => "the book",
-        (_, Role::FirstPath) => "the first path",
-        (_, Role::SecondPath) => "the second path",
+        (Call::FirstPath, Role::P) => "the path",
+        (_, Role::P) => "the first path",
+        (_, Role::Q) => "the second path",
         (_, Role::List) => "the list",
     }
 }

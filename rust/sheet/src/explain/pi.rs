@@ -65,8 +65,8 @@ pub(super) fn components<'a>(
 ) -> Vec<(usize, &'a Path)> {
     let mut found = Vec::new();
     for (c, &image) in mapping.nodes.iter().enumerate() {
-        let paths = classes.firsts_from(node).filter(|(_, path)| path.end(t) == Some(image));
-        found.extend(paths.map(|(_, path)| (c, path)));
+        let paths = classes.firsts_from(node).filter(|path| path.end(t) == Some(image));
+        found.extend(paths.map(|path| (c, path)));
     }
     found
 }

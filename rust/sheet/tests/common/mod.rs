@@ -163,6 +163,25 @@ impl Ran {
 /// S, T and mapping of both examples.
 pub const MAPPED: &str = "vendor.schema operator.schema vendor-to-operator.mapping";
 
+/// Document 01's case 7, with a link before a and one after f.
+pub const RULED: [&str; 15] = [
+    "node S",
+    "node A",
+    "node B",
+    "node C",
+    "node D",
+    "node E",
+    "node G",
+    "link S.s -> A",
+    "link A.a -> B",
+    "link B.b -> D",
+    "link A.c -> C",
+    "link C.d -> D",
+    "link D.f -> E",
+    "link E.g -> G",
+    "equation A.a.b = A.c.d",
+];
+
 /// Facts, one a line.
 pub fn lines(facts: &[&str]) -> String {
     facts.iter().map(|fact| format!("{fact}\n")).collect()

@@ -3,7 +3,8 @@
 use crate::mappings::Mapped;
 use crate::random::Random;
 use crate::schemas::parallel_pairs;
-use reference::paths::{all_paths, Classes};
+use reference::classes::Classes;
+use reference::paths::all_paths;
 use reference::plain::*;
 
 /// A way to damage a mapping sheet.
@@ -86,8 +87,8 @@ impl MappingDamage {
             RuleLeftOut => {
                 done.t.equations.clear();
                 let classes = Classes::of(&done.t);
-                let class = |p: &Path| classes.class(&f.path_image(p));
-                let holds = |rule: &Equation| class(&rule.left) == class(&rule.right);
+                let image = |p: &Path| classes.first(&f.path_image(p));
+                let holds = |rule: &Equation| image(&rule.left) == image(&rule.right);
                 return (!s.equations.iter().all(holds)).then_some(done);
             }
         }
@@ -143,9 +144,9 @@ impl MappingDamage {
 /// An equation of S whose images are unequal.
 fn broken_rule(random: &mut Random, s: &Schema, t: &Schema, f: &Mapping) -> Option<Equation> {
     let classes = Classes::of(t);
-    let class = |p: &Path| classes.class(&f.path_image(p));
+    let image = |p: &Path| classes.first(&f.path_image(p));
     let mut pairs = parallel_pairs(s);
-    pairs.retain(|(p, q)| class(p) != class(q));
+    pairs.retain(|(p, q)| image(p) != image(q));
     let (left, right) = random.any_of(&pairs)?;
     Some(Equation { left, right })
 }

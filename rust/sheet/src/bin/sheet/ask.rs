@@ -51,21 +51,6 @@ pub fn load(
     Ok(question)
 }
 
-/// A question about a single path: whether it equals itself.
-pub fn load_path(command: &'static str, words: &[String]) -> Result<Question, Failure> {
-    let [over, path] = words else {
-        let what = format!("expected SCHEMA PATH; {} given", words.len());
-        return Err(Failure::usage(command, what));
-    };
-    let mut inputs = Inputs::default();
-    let mut question = load(command, Call::CheckSchema, std::slice::from_ref(over), &mut inputs)?;
-    let lent = inputs.path(path, schema(&question, Role::S)?)?;
-    question.call = Call::SamePath;
-    question.first_path = Some(lent.clone());
-    question.second_path = Some(lent);
-    Ok(question)
-}
-
 /// The call's answer, or its refusal with the causes.
 pub fn answer(question: &Question) -> Result<Answer, Failure> {
     question.ask().map_err(|refusal| refused(question, refusal))
@@ -121,11 +106,11 @@ fn lend(
         Role::Book => {
             question.book = Some(inputs.instance(word, schema(question, Role::T)?)?);
         }
-        Role::FirstPath => {
-            question.first_path = Some(inputs.path(word, schema(question, Role::S)?)?);
+        Role::P => {
+            question.p = Some(inputs.path(word, schema(question, Role::S)?)?);
         }
-        Role::SecondPath => {
-            question.second_path = Some(inputs.path(word, schema(question, Role::S)?)?);
+        Role::Q => {
+            question.q = Some(inputs.path(word, schema(question, Role::S)?)?);
         }
         Role::List => {
             let over = if question.call.is_pushed() { Role::T } else { Role::S };
@@ -155,16 +140,14 @@ pub fn schema(question: &Question, role: Role) -> Result<&Schema, Failure> {
 /// What a word of the command line is called in usage messages.
 fn word_for(call: Call, role: Role) -> &'static str {
     match (call, role) {
-        (Call::CheckSchema | Call::CheckInstance | Call::SamePath | Call::PathChain, Role::S) => {
-            "SCHEMA"
-        }
-        (Call::CheckInstance, Role::Run) => "INSTANCE",
+        (_, Role::S) if !call.roles().contains(&Role::T) => "SCHEMA",
         (_, Role::S) => "S",
+        (Call::CheckInstance, Role::Run) => "INSTANCE",
         (_, Role::T) => "T",
         (_, Role::Mapping) => "MAPPING",
         (_, Role::Run) => "RUN",
         (_, Role::Book) => "BOOK",
-        (_, Role::FirstPath | Role::SecondPath) => "PATH",
+        (_, Role::P | Role::Q) => "PATH",
         (_, Role::List) => "LIST",
     }
 }

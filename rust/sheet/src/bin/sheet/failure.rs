@@ -4,7 +4,7 @@ use sheet::{Explanation, TextError};
 use std::io::Write;
 use std::process::ExitCode;
 
-/// Why there is no result.
+/// Why a command ends otherwise than done.
 #[derive(Debug)]
 pub enum Failure {
     /// The command line is not as expected.
@@ -20,6 +20,8 @@ pub enum Failure {
     Refused(Box<Explanation>),
     /// A file cannot be read or written.
     Trouble(String),
+    /// Two paths are unequal, which standard output has told.
+    Unequal,
     /// Whoever read standard output has stopped reading.
     ClosedPipe,
 }
@@ -34,8 +36,8 @@ impl Failure {
     }
 
     /// Tells the failure on standard error and gives the exit status: 1 where
-    /// the proved call refused, 2 where it could not be asked or its result
-    /// could not be written.
+    /// the proved call refused or the answer is no, 2 where it could not be asked
+    /// or its result could not be written.
     pub fn tell(self) -> ExitCode {
         let (text, status) = match self {
             Failure::Usage { command, what } => {
@@ -48,6 +50,7 @@ impl Failure {
             Failure::Text(errors) => (text_errors(&errors), 2),
             Failure::Refused(explanation) => (explanation.to_string(), 1),
             Failure::Trouble(what) => (format!("sheet: {what}\n"), 2),
+            Failure::Unequal => (String::new(), 1),
             Failure::ClosedPipe => (String::new(), 0),
         };
         // Nothing is left to be done where standard error is closed too.

@@ -28,6 +28,7 @@ fn text(command: &str) -> Option<&'static str> {
         "pi" => PI,
         "match" => MATCH,
         "turn" => TURN,
+        "first-path" => FIRST_PATH,
         "same-path" => SAME_PATH,
         "why" => WHY,
         "draw" => DRAW,
@@ -49,6 +50,7 @@ sheet: inspection run records from text and CSV to the proved calls and back
   sheet match pushed|raw S T MAPPING RUN BOOK LIST     check a list of partners
   sheet turn pushed-to-raw|raw-to-pushed S T MAPPING RUN BOOK LIST
                                                        turn it to the other side
+  sheet first-path SCHEMA PATH                         the first equal path
   sheet same-path SCHEMA PATH PATH                     are two paths equal?
   sheet why SCHEMA PATH PATH                           by which equations?
   sheet draw schema|mapping ..                         Graphviz text
@@ -63,9 +65,10 @@ What is written: -o PATH writes a sheet where PATH ends in .sheet or begins with
 sheet:, else text; without it the result goes to standard output. Existing files
 are kept unless --force is given.
 
-Exit status: 0 done; 1 refused by the proved call, with number, word and cause
-on standard error; 2 bad usage, bad text, or a file that cannot be read or
-written. Nothing is written on 1 and 2.
+Exit status: 0 done, for same-path equal; 1 refused by the proved call, with
+number, word and cause on standard error, for same-path also unequal; 2 bad
+usage, bad text, or a file that cannot be read or written. Nothing is written on
+1 and 2 but the `unequal` of same-path.
 ";
 
 const PACK: &str = "\
@@ -182,11 +185,28 @@ Example: sheet turn pushed-to-raw vendor.schema operator.schema \\
              vendor-to-operator.mapping run book pushed.csv -o raw.csv
 ";
 
+const FIRST_PATH: &str = "\
+sheet first-path SCHEMA PATH
+
+Prints the first of the paths that the schema's equations make equal to PATH, in
+the order of paths: by length, then start node, then link numbers from the left.
+Two paths are equal exactly where this is the same for both. A path is
+NODE.LINK.LINK, or the node alone; sheet:FILE is a path sheet.
+
+  -o FILE       write to FILE, a sheet if FILE ends in .sheet
+  --force       replace FILE if it exists
+  --tray BYTES  lend the call a tray of BYTES (refusal 16 if it is too small)
+
+Example: sheet first-path operator.schema Anomaly.joint.upstream
+";
+
 const SAME_PATH: &str = "\
 sheet same-path SCHEMA PATH PATH
 
 Prints `equal` or `unequal`: whether the schema's equations make two paths
 equal. A path is NODE.LINK.LINK, or the node alone; sheet:FILE is a path sheet.
+
+Exit status: 0 equal; 1 unequal or refused; 2 as for every command.
 
 Example: sheet same-path operator.schema Anomaly.joint.upstream Anomaly.reference
 ";
@@ -200,7 +220,8 @@ after it, with brackets around what is replaced, then the equation by its number
 and which side is replaced, the left by the right or the right by the left.
 
 For unequal paths it tells which starts or ends differ, if any do, and lists the
-paths that are equal to each of the two.
+paths that are equal to each of the two. The exit status is 0 for these too,
+unlike that of same-path.
 
 Example: sheet why operator.schema Anomaly.joint.upstream Anomaly.reference
 ";

@@ -35,7 +35,7 @@ impl<'a> Form<'a> {
 /// Whether a word means standard input.
 pub fn is_standard_input(role: Role, word: &str) -> bool {
     match role {
-        Role::FirstPath | Role::SecondPath => word == "sheet:-",
+        Role::P | Role::Q => word == "sheet:-",
         _ => matches!(Form::of(word), Form::Sheet("-") | Form::Text("-")),
     }
 }

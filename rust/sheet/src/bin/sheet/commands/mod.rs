@@ -2,6 +2,7 @@
 
 mod check;
 mod draw;
+mod first_path;
 mod matching;
 mod migrate;
 mod pack;
@@ -25,9 +26,9 @@ pub struct Command {
 }
 
 const FILES: &[&str] = &["--output", "--force"];
-const MIGRATES: &[&str] = &["--output", "--force", "--tray"];
+const TRAYS: &[&str] = &["--output", "--force", "--tray"];
 
-const COMMANDS: [Command; 12] = [
+const COMMANDS: [Command; 13] = [
     Command {
         name: "pack",
         options: &["--output", "--force", "--hex", "--unchecked"],
@@ -35,11 +36,12 @@ const COMMANDS: [Command; 12] = [
     },
     Command { name: "show", options: FILES, run: show::run },
     Command { name: "check", options: &[], run: check::run },
-    Command { name: "delta", options: MIGRATES, run: migrate::delta },
-    Command { name: "sigma", options: MIGRATES, run: migrate::sigma },
-    Command { name: "pi", options: MIGRATES, run: migrate::pi },
+    Command { name: "delta", options: TRAYS, run: migrate::delta },
+    Command { name: "sigma", options: TRAYS, run: migrate::sigma },
+    Command { name: "pi", options: TRAYS, run: migrate::pi },
     Command { name: "match", options: &[], run: matching::check },
-    Command { name: "turn", options: MIGRATES, run: matching::turn },
+    Command { name: "turn", options: TRAYS, run: matching::turn },
+    Command { name: "first-path", options: TRAYS, run: first_path::run },
     Command { name: "same-path", options: &[], run: same_path::run },
     Command { name: "why", options: &[], run: why::run },
     Command { name: "draw", options: FILES, run: draw::run },

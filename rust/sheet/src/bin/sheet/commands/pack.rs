@@ -2,7 +2,7 @@
 
 use super::sort;
 use crate::arguments::Arguments;
-use crate::ask::{answer, ask, load, load_path, schema};
+use crate::ask::{answer, ask, load, schema};
 use crate::failure::Failure;
 use crate::input::{Form, Inputs};
 use crate::output;
@@ -18,7 +18,7 @@ pub fn run(arguments: &Arguments, words: &[String]) -> Result<(), Failure> {
         ("mapping", rest) => pack(arguments, Call::CheckMapping, Role::Mapping, rest)?,
         ("instance", rest) => pack(arguments, Call::CheckInstance, Role::Run, rest)?,
         ("matching", rest) => pack_matching(arguments, rest)?,
-        (_, rest) => pack_path(arguments, rest)?,
+        (_, rest) => pack(arguments, Call::FirstPath, Role::P, rest)?,
     };
     let bytes = match arguments.hex {
         true => hexadecimal(&sheet).into_bytes(),
@@ -58,14 +58,6 @@ fn pack_matching(arguments: &Arguments, words: &[String]) -> Result<Vec<u8>, Fai
         answer(&question)?;
     }
     Ok(inputs.matching(list, schema(&question, Role::S)?)?.sheet)
-}
-
-fn pack_path(arguments: &Arguments, words: &[String]) -> Result<Vec<u8>, Failure> {
-    let question = load_path("pack", words)?;
-    if !arguments.unchecked {
-        answer(&question)?;
-    }
-    Ok(question.sheet(Role::FirstPath).to_vec())
 }
 
 fn hexadecimal(sheet: &[u8]) -> String {

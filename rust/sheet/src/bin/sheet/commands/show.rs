@@ -1,8 +1,8 @@
 //! `sheet show`
 
-use super::{matching, migrate, sort};
+use super::{first_path, matching, migrate, sort};
 use crate::arguments::Arguments;
-use crate::ask::{answer, ask, decoded, load, load_path, schema};
+use crate::ask::{answer, ask, decoded, load, schema};
 use crate::failure::Failure;
 use crate::input::Inputs;
 use crate::output::{self, Target};
@@ -32,7 +32,10 @@ pub fn run(arguments: &Arguments, words: &[String]) -> Result<(), Failure> {
             migrate::write("show", arguments, over, question.sheet(Role::Run))
         }
         ("matching", rest) => show_matching(arguments, rest),
-        (_, rest) => show_path(arguments, rest),
+        (_, rest) => {
+            let (question, _) = ask("show", Call::FirstPath, rest, arguments)?;
+            first_path::write(arguments, schema(&question, Role::S)?, question.sheet(Role::P))
+        }
     }
 }
 
@@ -58,14 +61,6 @@ fn show_matching(arguments: &Arguments, words: &[String]) -> Result<(), Failure>
     }
     decoded(&list.file, Matching::from_sheet(over, &from.rows, &list.sheet))?;
     matching::write("show", arguments, over, &from.rows, &list.sheet)
-}
-
-fn show_path(arguments: &Arguments, words: &[String]) -> Result<(), Failure> {
-    let question = load_path("show", words)?;
-    answer(&question)?;
-    let path = sheet::Path::from_sheet(question.sheet(Role::FirstPath));
-    let text = decoded("the path", path)?.text(schema(&question, Role::S)?);
-    write_text(arguments, &(text + "\n"))
 }
 
 fn write_text(arguments: &Arguments, text: &str) -> Result<(), Failure> {
