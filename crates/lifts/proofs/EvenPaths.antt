@@ -10,7 +10,7 @@ use lib.Dec.{eqb}
 use Rattle.meaning.specs.Lists.{upto, all}
 use Rattle.meaning.specs.Schema as meaning
 use Rattle.meaning.specs.Schema.{Path, pathsFrom}
-use Rattle.meaning.specs.Category.{equal, Category}
+use Rattle.meaning.specs.Category.{equal}
 use Rattle.meaning.specs.Formats as formats
 use Rattle.meaning.specs.Views.{nodeImage, pathImage}
 use Rattle.meaning.specs.Evenness.{lifts, oneClass}
@@ -55,13 +55,6 @@ module _ {s t : Schema} {source-paths target-paths : Paths} {f : Mapping} (h : S
   abbrev T : meaning.Schema
   T = schemaOf t
 
-  -- the categories that they present
-  abbrev C : Category
-  C = categoryOf s
-
-  abbrev D : Category
-  D = categoryOf t
-
   abbrev F : formats.Mapping
   F = mappingOf s f
 
@@ -74,11 +67,11 @@ module _ {s t : Schema} {source-paths target-paths : Paths} {f : Mapping} (h : S
       omega (arith, o .each i l, c .is, class-low (h .target) (h .target-paths) (imageNumber S T F i) (c .low))
 
   -- a path of S lies over a path of T where their classes are one
-  over-in : (c : ℕ) (q p : Path) → List·Memᴰ p (pathsFrom (S .graph) c) → classNumber T (pathImage F p) ≡ classNumber T q → List·Memᴰ p (lifts C D F c q)
-  over-in c q p i e = filter-in (λ x. equal D (pathImage F x) q) (pathsFrom (S .graph) c) i (equal-classes T (pathImage F p) q ∙ eq-eqb (classNumber T (pathImage F p)) (classNumber T q) e)
+  over-in : (c : ℕ) (q p : Path) → List·Memᴰ p (pathsFrom (S .graph) c) → classNumber T (pathImage F p) ≡ classNumber T q → List·Memᴰ p (lifts (categoryOf s) (categoryOf t) F c q)
+  over-in c q p i e = filter-in (λ x. equal (categoryOf t) (pathImage F x) q) (pathsFrom (S .graph) c) i (equal-classes T (pathImage F p) q ∙ eq-eqb (classNumber T (pathImage F p)) (classNumber T q) e)
 
-  over-of : (c : ℕ) (q p : Path) → List·Memᴰ p (lifts C D F c q) → List·Memᴰ p (pathsFrom (S .graph) c) × (classNumber T (pathImage F p) ≡ classNumber T q)
-  over-of c q p i = let u = filter-of (λ x. equal D (pathImage F x) q) (pathsFrom (S .graph) c) i in (u .0, eqb-true (classNumber T (pathImage F p)) (classNumber T q) (sym (equal-classes T (pathImage F p) q) ∙ u .1))
+  over-of : (c : ℕ) (q p : Path) → List·Memᴰ p (lifts (categoryOf s) (categoryOf t) F c q) → List·Memᴰ p (pathsFrom (S .graph) c) × (classNumber T (pathImage F p) ≡ classNumber T q)
+  over-of c q p i = let u = filter-of (λ x. equal (categoryOf t) (pathImage F x) q) (pathsFrom (S .graph) c) i in (u .0, eqb-true (classNumber T (pathImage F p)) (classNumber T q) (sym (equal-classes T (pathImage F p) q) ∙ u .1))
 
   module _ (c : ℕ) (l : c < s .graph .nodes) where
     abbrev d : ℕ
@@ -111,7 +104,7 @@ module _ {s t : Schema} {source-paths target-paths : Paths} {f : Mapping} (h : S
           subst (λ (w : Path). classNumber S w ≡ getD classesOver (classNumber T (pathImage F w)) 0) (n .is)
           (sym (class-at (h .source) (h .source-paths) x (n .below)) ∙ sym u ∙ ap (λ (y : ℕ). getD classesOver y 0) (o .each x (n .below)))
 
-      some-lift : (q : Path) → List·Memᴰ q (pathsFrom (T .graph) d) → (p : Path) × List·Memᴰ p (lifts C D F c q)
+      some-lift : (q : Path) → List·Memᴰ q (pathsFrom (T .graph) d) → (p : Path) × List·Memᴰ p (lifts (categoryOf s) (categoryOf t) F c q)
       some-lift q i =
           let n = numbered (h .target) (h .target-paths) d d-in q i in
           let y = n .number in
@@ -125,14 +118,14 @@ module _ {s t : Schema} {source-paths target-paths : Paths} {f : Mapping} (h : S
                 (sym (o .each x (v .below)) ∙ v .lies ∙ class-at (h .target) (h .target-paths) y (n .below) ∙ ap (classNumber T) (n .is)),
           )
 
-      one-lift : (q : Path) → List·Memᴰ q (pathsFrom (T .graph) d) → oneClass C (lifts C D F c q) ≡ true
-      one-lift q i = same-oneClass C (lifts C D F c q) (some-lift q i .1) (λ p r x y.
+      one-lift : (q : Path) → List·Memᴰ q (pathsFrom (T .graph) d) → oneClass (categoryOf s) (lifts (categoryOf s) (categoryOf t) F c q) ≡ true
+      one-lift q i = same-oneClass (categoryOf s) (lifts (categoryOf s) (categoryOf t) F c q) (some-lift q i .1) (λ p r x y.
           let u = over-of c q p x in
           let v = over-of c q r y in
           same-first S p r (unique-class p (u .0) ∙ ap (λ (z : ℕ). getD classesOver z 0) (u .1 ∙ sym (v .1)) ∙ sym (unique-class r (v .0))))
 
     -- ---- to the arrays
-    module _ (e : all (λ q. oneClass C (lifts C D F c q)) (pathsFrom (T .graph) d) ≡ true) where
+    module _ (e : all (λ q. oneClass (categoryOf s) (lifts (categoryOf s) (categoryOf t) F c q)) (pathsFrom (T .graph) d) ≡ true) where
       image-from : (x : ℕ) → x < source-paths .count → getD (source-paths .start) x 0 ≡ c → List·Memᴰ (pathImage F (pathAt (S .graph) x)) (pathsFrom (T .graph) d)
       image-from x b z =
           let p = pathAt (S .graph) x in
@@ -145,8 +138,8 @@ module _ {s t : Schema} {source-paths target-paths : Paths} {f : Mapping} (h : S
           let q = pathImage F (pathAt (S .graph) x) in
           let v = lifts-some (source-paths .start) (source-paths .class) over c (source-paths .count) (getD over x 0) (over-low x b) (every x b st) in
           let y = v .number in
-          let one = all-of (λ (q : Path). oneClass C (lifts C D F c q)) (pathsFrom (T .graph) d) e (image-from x b st) in
-          let same = oneClass-same C (lifts C D F c q) one (pathAt (S .graph) y) (pathAt (S .graph) x)
+          let one = all-of (λ (q : Path). oneClass (categoryOf s) (lifts (categoryOf s) (categoryOf t) F c q)) (pathsFrom (T .graph) d) e (image-from x b st) in
+          let same = oneClass-same (categoryOf s) (lifts (categoryOf s) (categoryOf t) F c q) one (pathAt (S .graph) y) (pathAt (S .graph) x)
           (over-in c q (pathAt (S .graph) y) (from-table (h .source) (h .source-paths) c y l (v .below) (v .starts)) (sym (o .each y (v .below)) ∙ v .lies ∙ o .each x b))
           (over-in c q (pathAt (S .graph) x) (from-table (h .source) (h .source-paths) c x l b st) refl) in
           eq-eqb (getD classesOver (getD over x 0) 0) (getD (source-paths .class) x 0)
@@ -156,7 +149,7 @@ module _ {s t : Schema} {source-paths target-paths : Paths} {f : Mapping} (h : S
       each-has-lift y b = cond-is (eqb (getD (target-paths .start) y 0) (getD (f .node) c 0)) (not (eqb (getD classesOver (getD (target-paths .class) y 0) 0) 256)) (λ z.
           let st : getD (target-paths .start) y 0 ≡ d = eqb-true (getD (target-paths .start) y 0) (getD (f .node) c 0) z ∙ sym (node-at s f c l) in
           let q = pathAt (T .graph) y in
-          let p = oneClass-some C (lifts C D F c q) (all-of (λ (q : Path). oneClass C (lifts C D F c q)) (pathsFrom (T .graph) d) e (from-table (h .target) (h .target-paths) d y d-in b st)) in
+          let p = oneClass-some (categoryOf s) (lifts (categoryOf s) (categoryOf t) F c q) (all-of (λ (q : Path). oneClass (categoryOf s) (lifts (categoryOf s) (categoryOf t) F c q)) (pathsFrom (T .graph) d) e (from-table (h .target) (h .target-paths) d y d-in b st)) in
           let u = over-of c q (p .0) (p .1) in
           let n = numbered (h .source) (h .source-paths) c l (p .0) (u .0) in
           let x = n .number in
@@ -164,7 +157,7 @@ module _ {s t : Schema} {source-paths target-paths : Paths} {f : Mapping} (h : S
           not-is (eqb (getD classesOver (getD (target-paths .class) y 0) 0) 256) (λ r.
           every x (n .below) (n .starts) (ap (λ (w : ℕ). getD classesOver w 0) lies-over ∙ eqb-true (getD classesOver (getD (target-paths .class) y 0) 0) 256 r)))
 
-    pub even-paths : evenPathsAt source-paths target-paths over (f .node) c ≡ all (λ q. oneClass C (lifts C D F c q)) (pathsFrom (T .graph) d)
-    even-paths = both-ways (all unique (upto (source-paths .count)) && all hasLift (upto (target-paths .count))) (all (λ q. oneClass C (lifts C D F c q)) (pathsFrom (T .graph) d))
-        (λ e. let u = and-both (all unique (upto (source-paths .count))) (all hasLift (upto (target-paths .count))) e in all-in (λ (q : Path). oneClass C (lifts C D F c q)) (pathsFrom (T .graph) d) (λ q i. one-lift (u .0) (u .1) q i))
+    pub even-paths : evenPathsAt source-paths target-paths over (f .node) c ≡ all (λ q. oneClass (categoryOf s) (lifts (categoryOf s) (categoryOf t) F c q)) (pathsFrom (T .graph) d)
+    even-paths = both-ways (all unique (upto (source-paths .count)) && all hasLift (upto (target-paths .count))) (all (λ q. oneClass (categoryOf s) (lifts (categoryOf s) (categoryOf t) F c q)) (pathsFrom (T .graph) d))
+        (λ e. let u = and-both (all unique (upto (source-paths .count))) (all hasLift (upto (target-paths .count))) e in all-in (λ (q : Path). oneClass (categoryOf s) (lifts (categoryOf s) (categoryOf t) F c q)) (pathsFrom (T .graph) d) (λ q i. one-lift (u .0) (u .1) q i))
         (λ e. and-intro (all-upto unique (source-paths .count) (each-unique e)) (all-upto hasLift (target-paths .count) (each-has-lift e)))

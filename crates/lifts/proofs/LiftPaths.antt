@@ -9,7 +9,7 @@ use lib.Dec.{eqb}
 use Rattle.meaning.specs.Lists.{upto, filter, headOr}
 use Rattle.meaning.specs.Schema as meaning
 use Rattle.meaning.specs.Schema.{Path, path, source, end, allPaths}
-use Rattle.meaning.specs.Category.{equal, Category}
+use Rattle.meaning.specs.Category.{equal}
 use Rattle.meaning.specs.Formats as formats
 use Rattle.meaning.specs.Views.{nodeImage, pathImage}
 use Rattle.meaning.specs.Evenness.{lifts}
@@ -56,13 +56,6 @@ module _ {s t : Schema} {source-paths target-paths : Paths} {f : Mapping} (h : S
   abbrev T : meaning.Schema
   T = schemaOf t
 
-  -- the categories that they present
-  abbrev C : Category
-  C = categoryOf s
-
-  abbrev D : Category
-  D = categoryOf t
-
   abbrev F : formats.Mapping
   F = mappingOf s f
 
@@ -73,13 +66,13 @@ module _ {s t : Schema} {source-paths target-paths : Paths} {f : Mapping} (h : S
   H = graphOf (t .graph)
 
   -- the lifts of q at c, by their numbers
-  lifts-are : (q : Path) → lifts C D F c q ≡ map (pathAt G) (filter (isOver (source-paths .start) over c (classNumber T q)) (upto (source-paths .count)))
+  lifts-are : (q : Path) → lifts (categoryOf s) (categoryOf t) F c q ≡ map (pathAt G) (filter (isOver (source-paths .start) over c (classNumber T q)) (upto (source-paths .count)))
   lifts-are q =
-      ap (filter (λ p. equal D (pathImage F p) q)) (paths-from S (formed (h .source)) c l)
-      ∙ filter-filter (λ p. eqb (p .start) c) (λ p. equal D (pathImage F p) q) (allPaths G)
-      ∙ filter-place (allPaths G) (path 0 []) (λ p. eqb (p .start) c && equal D (pathImage F p) q)
-      ∙ ap (λ (n : ℕ). map (pathAt G) (filter (λ i. eqb (pathAt G i .start) c && equal D (pathImage F (pathAt G i)) q) (upto n))) (sym (h .source-paths .table .counted))
-      ∙ ap (map (pathAt G)) (filter-same (λ i. eqb (pathAt G i .start) c && equal D (pathImage F (pathAt G i)) q) (isOver (source-paths .start) over c (classNumber T q)) (upto (source-paths .count))
+      ap (filter (λ p. equal (categoryOf t) (pathImage F p) q)) (paths-from S (formed (h .source)) c l)
+      ∙ filter-filter (λ p. eqb (p .start) c) (λ p. equal (categoryOf t) (pathImage F p) q) (allPaths G)
+      ∙ filter-place (allPaths G) (path 0 []) (λ p. eqb (p .start) c && equal (categoryOf t) (pathImage F p) q)
+      ∙ ap (λ (n : ℕ). map (pathAt G) (filter (λ i. eqb (pathAt G i .start) c && equal (categoryOf t) (pathImage F (pathAt G i)) q) (upto n))) (sym (h .source-paths .table .counted))
+      ∙ ap (map (pathAt G)) (filter-same (λ i. eqb (pathAt G i .start) c && equal (categoryOf t) (pathImage F (pathAt G i)) q) (isOver (source-paths .start) over c (classNumber T q)) (upto (source-paths .count))
       (λ i w. let b = of-upto (source-paths .count) w in ap (λ (x : Bool). eqb (pathAt G i .start) c && x) (equal-classes T (pathImage F (pathAt G i)) q) ∙ rw (h .source-paths .table .columns .start .each i b, o .each i b)))
 
   passed : Imageable s t source-paths target-paths f
@@ -125,7 +118,7 @@ module _ {s t : Schema} {source-paths target-paths : Paths} {f : Mapping} (h : S
         let r : ℕ = headOr c (filter (isOver (source-paths .start) over c (getD (target-paths .class) number 0)) (upto (source-paths .count))) in
         let u = h .source-paths .table .counted in
         let i : r < source-paths .count = headOr-below (source-paths .count) (source-paths .count) c (isOver (source-paths .start) over c (getD (target-paths .class) number 0)) (omega arith) (omega (arith, trivial-count G (h .source .acyclic))) in
-        let p : pathAt G r ≡ lift C D F c e = sym (
+        let p : pathAt G r ≡ lift (categoryOf s) (categoryOf t) F c e = sym (
         ap (headOr (path c [])) (lifts-are (path (nodeImage F c) (e ∷ [])))
         ∙ ap (λ (x : ℕ). headOr (path c []) (map (pathAt G) (filter (isOver (source-paths .start) over c x) (upto (source-paths .count))))) (edge-path .class)
         ∙ ap (λ (x : Path). headOr x (map (pathAt G) (filter (isOver (source-paths .start) over c (getD (target-paths .class) number 0)) (upto (source-paths .count))))) (sym (trivial-at G (h .source .acyclic) c l))

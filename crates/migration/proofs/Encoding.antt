@@ -38,6 +38,7 @@ use Rattle.agreement.proofs.Evenness.{even-iff}
 use Rattle.agreement.proofs.Sigma.{sigma-valid}
 use Rattle.agreement.specs.Agrees.{Lendable}
 use Rattle.agreement.proofs.Agrees.{delta-agrees, sigma-agrees, pi-agrees}
+use Rattle.migration.specs.Answers.{checked}
 use Rattle.migration.specs.Encoding.{Says, ExportsSay, maxPathBytes, maxMatchingBytes, maxChainBytes, Within, ResultsWithin}
 
 -- ---- byte lengths
@@ -156,13 +157,13 @@ says {rs} (refused n p) D l h =
     say-refusal n p (ltb-true n 256 (b .0)) (ltb-true p 256 (b .1))
 says (accepted n) D l h = say-result n (h n refl)
 
--- a result as a small number
-module _ {A : Type 0} {rs : List Refusal} {t : Tests A rs} {o : Outcome A} where
-  says-small : Decides t o → all low rs ≡ true → (g : A → ℕ) → ((a : A) → g a < 2) → Says (o >>= λ a. accepted (g a))
-  says-small D l g h = says (o >>= λ a. accepted (g a)) (decides-giving D g) l (λ n e.
-      let a = bind-accepted o (λ a. accepted (g a)) e in
-      let k : g (a .0) ≡ n = accepted-same (a .2) in
-      omega (arith, h (a .0)))
+-- an accepted check is 0
+module _ {rs : List Refusal} {t : Tests (Unit {0}) rs} {o : Outcome (Unit {0})} where
+  says-check : Decides t o → all low rs ≡ true → Says (checked o)
+  says-check D l = says (checked o) (decides-giving D (λ _. 0)) l (λ n e.
+      let a = bind-accepted o (λ _. accepted 0) e in
+      let k : 0 ≡ n = accepted-same (a .2) in
+      omega arith)
 
 -- a result in a tray
 module _ {rs : List Refusal} {t : Tests ℕ rs} (tray : List ℕ) (o : Outcome (List ℕ)) (m : ℕ) where
@@ -173,16 +174,16 @@ module _ {rs : List Refusal} {t : Tests ℕ rs} (tray : List ℕ) (o : Outcome (
 
 pub exports-say : ExportsSay
 exports-say = record {
-  check-schema = λ s. says-small (checkSchema-decided s) refl (λ _. 0) (λ _. omega arith);
-  check-mapping = λ s t f. says-small (checkMapping-decided s t f) refl (λ _. 0) (λ _. omega arith);
-  check-instance = λ s i. says-small (checkInstance-decided s i) refl (λ _. 0) (λ _. omega arith);
+  check-schema = λ s. says-check (checkSchema-decided s) refl;
+  check-mapping = λ s t f. says-check (checkMapping-decided s t f) refl;
+  check-instance = λ s i. says-check (checkInstance-decided s i) refl;
   first-path = λ s p tray. says-bytes tray (pathQuestion s p) maxPathBytes (pathQuestion-answer tray s p) refl (results-within .first-path s p) (omega arith);
   path-chain = λ s p q tray. says-bytes tray (pathChain s p q) maxChainBytes (pathChain-answer tray s p q) refl (results-within .path-chain s p q) (omega arith);
   delta = λ s t f j tray. says-bytes tray (sheetOf (deltaTables s t f j)) maxInstanceBytes (delta-answer tray s t f j) refl (results-within .delta s t f j) (omega arith);
   sigma = λ s t f i tray. says-bytes tray (sheetOf (sigmaTables s t f i)) maxInstanceBytes (sigma-answer tray s t f i) refl (results-within .sigma s t f i) (omega arith);
   pi = λ s t f i tray. says-bytes tray (sheetOf (piTables s t f i)) maxInstanceBytes (pi-answer tray s t f i) refl (results-within .pi s t f i) (omega arith);
-  check-pushed = λ s t f i j k. says-small (checkPushed-decided s t f i j k) refl (λ _. 0) (λ _. omega arith);
-  check-raw = λ s t f i j k. says-small (checkRaw-decided s t f i j k) refl (λ _. 0) (λ _. omega arith);
+  check-pushed = λ s t f i j k. says-check (checkPushed-decided s t f i j k) refl;
+  check-raw = λ s t f i j k. says-check (checkRaw-decided s t f i j k) refl;
   pushed-to-raw = λ s t f i j k tray. says-bytes tray (pushedToRaw s t f i j k) maxMatchingBytes (pushedToRaw-answer tray s t f i j k) refl (results-within .pushed-to-raw s t f i j k) (omega arith);
   raw-to-pushed = λ s t f i j k tray. says-bytes tray (rawToPushed s t f i j k) maxMatchingBytes (rawToPushed-answer tray s t f i j k) refl (results-within .raw-to-pushed s t f i j k) (omega arith);
 }

@@ -24,7 +24,6 @@ use Rattle.meaning.specs.Views as views
 use Rattle.meaning.specs.Sigma.{fibreBelow, fibre, lift, linksAlong, attributeOver, firstRow}
 use Rattle.meaning.proofs.PathLevels.{concatMap-append}
 use Rattle.meaning.proofs.Tabulate.{tabulate-same, tabulate-upto, and-both}
-use Rattle.meaning.specs.Category.{Category}
 use Rattle.agreement.proofs.Paths.{path-iff, path-short}
 use Rattle.agreement.proofs.Mappings.{mapping-is}
 use Rattle.agreement.specs.Valid.{ValidMapping}
@@ -101,13 +100,6 @@ module _ {s t : Schema} {source-paths target-paths : Paths} {f : Mapping} {run :
   abbrev T : meaning.Schema
   T = schemaOf t
 
-  -- the categories that they present
-  abbrev C : Category
-  C = categoryOf s
-
-  abbrev D : Category
-  D = categoryOf t
-
   abbrev F : formats.Mapping
   F = mappingOf s f
 
@@ -117,7 +109,7 @@ module _ {s t : Schema} {source-paths target-paths : Paths} {f : Mapping} {run :
   abbrev I : formats.Instance
   I = tablesOf s run links values
 
-  valid : ValidMapping C D F
+  valid : ValidMapping (categoryOf s) (categoryOf t) F
   valid =
       let a = listed-category S (formed (P .schemas .source)) in
       let b = listed-category T (formed (P .schemas .target)) in
@@ -125,7 +117,7 @@ module _ {s t : Schema} {source-paths target-paths : Paths} {f : Mapping} {run :
         S-is = a;
         T-is = b;
         attributes = tabulate-length (s .attributes) (λ i. getD (f .attribute) i 0) ∙ sym (attributes-count s);
-        is = mapping-is C D F a b (tabulate-length (s .graph .nodes) (λ i. getD (f .node) i 0)) (P .mapping .fits) (P .mapping .keeps);
+        is = mapping-is (categoryOf s) (categoryOf t) F a b (tabulate-length (s .graph .nodes) (λ i. getD (f .node) i 0)) (P .mapping .fits) (P .mapping .keeps);
       }
 
   evenness : Even (views.mappingOf S T F)
@@ -144,7 +136,7 @@ module _ {s t : Schema} {source-paths target-paths : Paths} {f : Mapping} {run :
     number = getD lifts (16 * e + c) 0
 
     abbrev p : Path
-    p = lift C D F c e
+    p = lift (categoryOf s) (categoryOf t) F c e
 
     numbered : IsLift s t source-paths f c e number
     numbered =
@@ -227,21 +219,21 @@ module _ {s t : Schema} {source-paths target-paths : Paths} {f : Mapping} {run :
     liftRows e c = liftRow source-paths (f .node) (run .counts) links (getD lifts (16 * e + c) 0)
 
     module _ {r : Instance} (R : Counted s t f run r) {l₀ followed : List ℕ} (W : JoinedColumns (f .node) (run .counts) (t .graph .source) (s .graph .nodes) (t .graph .edges) liftRows l₀ followed) where
-      links-at : (e : ℕ) → e < t .graph .edges → columnOf followed (512 * e) (rowsOf (t .graph .source) (r .counts) e) ≡ concatMap (λ c. linksAlong S F I c (lift C D F c e)) (fibre S F (source (T .graph) e))
+      links-at : (e : ℕ) → e < t .graph .edges → columnOf followed (512 * e) (rowsOf (t .graph .source) (r .counts) e) ≡ concatMap (λ c. linksAlong S F I c (lift (categoryOf s) (categoryOf t) F c e)) (fibre S F (source (T .graph) e))
       links-at e b =
           let d = getD (t .graph .source) e 0 in
           let k = R .counts .each d (source-in t (P .schemas .target) e b) in
           ap (columnOf followed (512 * e)) k
-          ∙ joined-column F (f .node) (run .counts) d (λ c. linksAlong S F I c (lift C D F c e)) (512 * e) followed (s .graph .nodes) (node-at s f)
+          ∙ joined-column F (f .node) (run .counts) d (λ c. linksAlong S F I c (lift (categoryOf s) (categoryOf t) F c e)) (512 * e) followed (s .graph .nodes) (node-at s f)
           (λ c l at.
           tabulate-upto (getD (run .counts) c 0) (λ x h. W .each e b c l at x h ∙ lift-row U e b c l at long x h)
-          ∙ ap (λ (n : ℕ). map (λ x. firstRow F I (end G (lift C D F c e)) + follow I (lift C D F c e .edges) x) (upto n)) (sym (count-is c l)))
-          ∙ ap (λ (c : ℕ). concatMap (λ c. linksAlong S F I c (lift C D F c e)) (fibre S F c)) (sym (source-at (t .graph .edges) (t .graph .source) (t .graph .target) e b))
+          ∙ ap (λ (n : ℕ). map (λ x. firstRow F I (end G (lift (categoryOf s) (categoryOf t) F c e)) + follow I (lift (categoryOf s) (categoryOf t) F c e .edges) x) (upto n)) (sym (count-is c l)))
+          ∙ ap (λ (c : ℕ). concatMap (λ c. linksAlong S F I c (lift (categoryOf s) (categoryOf t) F c e)) (fibre S F c)) (sym (source-at (t .graph .edges) (t .graph .source) (t .graph .target) e b))
 
       pub links-are : columnsOf (t .graph .edges) (rowsOf (t .graph .source) (r .counts)) followed ≡ sigmaOf s t f run links values .links
       links-are =
           tabulate-upto (t .graph .edges) links-at
-          ∙ ap (λ (n : ℕ). map (λ e. concatMap (λ c. linksAlong S F I c (lift C D F c e)) (fibre S F (source (T .graph) e))) (upto n)) (sym (edges-count (t .graph .edges) (t .graph .source) (t .graph .target)))
+          ∙ ap (λ (n : ℕ). map (λ e. concatMap (λ c. linksAlong S F I c (lift (categoryOf s) (categoryOf t) F c e)) (fibre S F (source (T .graph) e))) (upto n)) (sym (edges-count (t .graph .edges) (t .graph .source) (t .graph .target)))
 
   -- ---- values: the attribute at c over b, and its column
   module _ (b : ℕ) (h : b < t .attributes) (c : ℕ) (l : c < s .graph .nodes) (at : getD (f .node) c 0 ≡ getD (t .node) b 0) where
