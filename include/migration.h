@@ -48,7 +48,8 @@ extern "C" {
  *   mapping     1, 2, 7, 8
  *   instance    1 inside the row counts, 3, 1 in the rest, 2, 9, 10, 11
  *   path        1, 2, 4
- * Then come the conditions of all sheets together, at place 0: 12, 13, 14, 15; then a list of partners: 1, 2, 17; last, at place 0, 16.
+ * Then come the conditions of all sheets together, at place 0: 12, 13, 14, 15, of migration_query 13, 14, 12, 15; then a list of partners:
+ * 1, 2, 17; last, at place 0, 16.
  */
 enum {
     MIGRATION_CUT = 1,          /* the bits end before the last field does */
@@ -58,13 +59,13 @@ enum {
     MIGRATION_RING = 5,         /* the edges form a loop */
     MIGRATION_CROWD = 6,        /* more than 256 paths */
     MIGRATION_MISFIT = 7,       /* an image is missing, does not join, has the wrong end, another kind or another node */
-    MIGRATION_BROKEN_RULE = 8,  /* an equation of S has unequal images in T */
+    MIGRATION_BROKEN_RULE = 8,  /* an equation of the schema that is mapped has unequal images in the other */
     MIGRATION_DANGLING = 9,     /* a target row at or beyond its table's count */
     MIGRATION_OFF_SCALE = 10,   /* a value below its kind's smallest or above its largest */
     MIGRATION_BENT_ROW = 11,    /* a row where the two sides of an equation lead to different rows */
-    MIGRATION_UNEVEN = 12,      /* Sigma, a checker or a turning, and the mapping is not even */
-    MIGRATION_UNPAIRED = 13,    /* Pi, and the attribute mapping is not a bijection */
-    MIGRATION_WIDE = 14,        /* Pi, and a table has more than 64 components */
+    MIGRATION_UNEVEN = 12,      /* Sigma, a checker or a turning, and the mapping is not even; the query, and H is not */
+    MIGRATION_UNPAIRED = 13,    /* Pi or the query, and the attribute mapping (of G) is not a bijection */
+    MIGRATION_WIDE = 14,        /* Pi or the query, and a table has more than 64 components (of G) */
     MIGRATION_OVERFULL = 15,    /* a migrated instance has more than 512 rows */
     MIGRATION_SMALL_TRAY = 16,  /* the result needs more bytes than were lent */
     MIGRATION_NO_MATCH = 17     /* the list is not a matching */
@@ -85,6 +86,7 @@ enum {
     MIGRATION_STACK_DELTA = 253952,
     MIGRATION_STACK_SIGMA = 262144,
     MIGRATION_STACK_PI = 524288,
+    MIGRATION_STACK_QUERY = 688128,
     MIGRATION_STACK_MATCHINGS = 401408 /* each of the four calls with a list of partners */
 };
 
@@ -126,10 +128,22 @@ uint64_t migration_sigma(const uint8_t *s, size_t s_len, const uint8_t *t, size_
 
 /* Pi along a mapping from S to T (places 1 to 3) of an instance of S (place 4): an instance sheet of T, written to the tray.
  * At place 0: 13, 14, 15, 16. Joins as people have them take time in proportion to their rows. Sheets can be made on which Pi takes longer than
- * anyone waits, since what it asks is NP-hard: who takes sheets from strangers gives the call a limit of time. The other calls have work in
- * proportion to their sheets, and to the paths of their schemas. */
+ * anyone waits, since what it asks is NP-hard: who takes sheets from strangers gives the call a limit of time. All this holds of migration_query
+ * too, which joins by Pi. The other calls have work in proportion to their sheets, and to the paths of their schemas. */
 uint64_t migration_pi(const uint8_t *s, size_t s_len, const uint8_t *t, size_t t_len, const uint8_t *f, size_t f_len,
                       const uint8_t *i, size_t i_len, uint8_t *tray, size_t tray_len);
+
+/* Project, join, unite: Sigma along H of Pi along G of Delta along F of a run. Of four schemas (places 1 to 4), F (place 5) goes from the second
+ * to the first, G (place 6) from the second to the third, and H (place 7), which is even, from the third to the fourth; the run (place 8) is an
+ * instance of the first. The result is an instance sheet of the fourth, written to the tray.
+ * At place 0: 13 and 14 for G, 12 for H, then 15 where Delta's result has more than 512 rows, 15 where Pi's has; last 16. Sigma's result has as many
+ * rows as Pi's, so it is never overfull. 13, 14 and 12 come before either 15, whatever the run.
+ * It accepts exactly where migration_delta(s2, s1, f, run), migration_pi(s2, s3, g, ..) and migration_sigma(s3, s4, h, ..), each lent the result of
+ * the one before, all accept, with this tray for the last and trays that hold every instance sheet for the others; and it writes the same bytes.
+ * Where they do not, which refusal is given may differ: the query judges all sheets, and 13, 14 and 12, before it migrates. */
+uint64_t migration_query(const uint8_t *s1, size_t s1_len, const uint8_t *s2, size_t s2_len, const uint8_t *s3, size_t s3_len,
+                         const uint8_t *s4, size_t s4_len, const uint8_t *f, size_t f_len, const uint8_t *g, size_t g_len,
+                         const uint8_t *h, size_t h_len, const uint8_t *run, size_t run_len, uint8_t *tray, size_t tray_len);
 
 /* Matchings along an even mapping from S to T (places 1 to 3), of a run over S (place 4) and a book over T (place 5).
  * The list (place 6) is a matching sheet: for each row of the side's first instance, tables in order, the row of its partner in 9 bits.

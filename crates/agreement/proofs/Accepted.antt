@@ -33,7 +33,7 @@ module _ {A B : Type 0} where
   sheet-accepted place (sound a) k e = (a, refl, e)
 
 -- a test passed, and what comes after it
-ensure-accepted : {B : Type 0} (t : Bool) (n : ℕ) (k : Unit {0} → Outcome B) {b : B} → (ensure t n >>= k) ≡ accepted b → (t ≡ true) × (k tt ≡ accepted b)
+pub ensure-accepted : {B : Type 0} (t : Bool) (n : ℕ) (k : Unit {0} → Outcome B) {b : B} → (ensure t n >>= k) ≡ accepted b → (t ≡ true) × (k tt ≡ accepted b)
 ensure-accepted true n k e = (refl, e)
 ensure-accepted false n k e = absurd (refused-not-accepted e)
 
@@ -79,6 +79,9 @@ module _ (s t f j : List ℕ) where
       let c = fits-accepted (delta (m .S) (m .F) (b .0)) _ (b .2) in
       (m, b .0, record { migration-sound = migration-accepted s t f (a .1); J-sound = b .1; fits = c .0 }, sym (accepted-same (c .1)))
 
+  pub delta-accepts : {m : Migration} {J : Instance} → DeltaSound s t f j m J → deltaTables s t f j ≡ accepted (deltaResult m J)
+  delta-accepts {m} {J} h = rw (migration-accepts s t f (h .migration-sound), h .J-sound, le-leb (sumOf (delta (m .S) (m .F) J .counts)) maxRows (h .fits))
+
 pub record SigmaSound (s t f i : List ℕ) (m : Migration) (I : Instance) : Type 0 where
   pub migration-sound : MigrationSound s t f m
   pub I-sound : judgeInstance (m .S) i ≡ sound I
@@ -97,6 +100,11 @@ module _ (s t f i : List ℕ) where
       let c = ensure-accepted (even (listedCategory (m .S)) (listedCategory (m .T)) (m .F)) 12 _ (b .2) in
       let d = fits-accepted (sigma (listedCategory (m .S)) (listedCategory (m .T)) (m .F) (b .0)) _ (c .1) in
       (m, b .0, record { migration-sound = migration-accepted s t f (a .1); I-sound = b .1; is-even = c .0; fits = d .0 }, sym (accepted-same (d .1)))
+
+  pub sigma-accepts : {m : Migration} {I : Instance} → SigmaSound s t f i m I → sigmaTables s t f i ≡ accepted (sigmaResult m I)
+  sigma-accepts {m} {I} h =
+      let n = sumOf (sigma (listedCategory (m .S)) (listedCategory (m .T)) (m .F) I .counts) in
+      rw (migration-accepts s t f (h .migration-sound), h .I-sound, h .is-even, le-leb n maxRows (h .fits))
 
 pub record PiSound (s t f i : List ℕ) (m : Migration) (I : Instance) : Type 0 where
   pub migration-sound : MigrationSound s t f m
@@ -118,6 +126,11 @@ module _ (s t f i : List ℕ) where
       let n = ensure-accepted (hasFewComponents (listedCategory (m .S)) (listedCategory (m .T)) (m .F)) 14 _ (c .1) in
       let d = fits-accepted (pi (listedCategory (m .S)) (listedCategory (m .T)) (m .F) (b .0)) _ (n .1) in
       (m, b .0, record { migration-sound = migration-accepted s t f (a .1); I-sound = b .1; is-bijective = c .0; few-components = n .0; fits = d .0 }, sym (accepted-same (d .1)))
+
+  pub pi-accepts : {m : Migration} {I : Instance} → PiSound s t f i m I → piTables s t f i ≡ accepted (piResult m I)
+  pi-accepts {m} {I} h =
+      let n = sumOf (pi (listedCategory (m .S)) (listedCategory (m .T)) (m .F) I .counts) in
+      rw (migration-accepts s t f (h .migration-sound), h .I-sound, h .is-bijective, h .few-components, le-leb n maxRows (h .fits))
 
 -- ---- the run and the book, with both migrated tables
 pub record SidesSound (s t f i j : List ℕ) (x : Sides) : Type 0 where

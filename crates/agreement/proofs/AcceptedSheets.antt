@@ -1,10 +1,10 @@
 -- The path question, chains and migrations on accepted sheets: which refusal of all sheets together, by what it counts, or which result.
 use Prim.Native.Nat.{ℕ, zero, suc, _<_, _≤_}
 use mathlib.Core.Path.{_≡_, refl, sym, ap, _∙_, subst}
-use mathlib.Core.Bool.{Bool, true, false, _&&_}
-use mathlib.Core.List.{List, [], _∷_, List·Memᴰ, List·Memᴰ·head, List·Memᴰ·tail}
+use mathlib.Core.Bool.{Bool, true, false}
+use mathlib.Core.List.{List, [], _∷_}
 use mathlib.Core.Option.{Option, none, some}
-use mathlib.Core.Logic.{_↔_}
+use mathlib.Core.Logic.{inr, _↔_, Iff·trans}
 use native.Mathlib.Omega.{arith}
 use lib.ListN.{length, getD, length-map}
 use lib.Dec.{leb}
@@ -17,14 +17,14 @@ use Rattle.theory.specs.Pi.{IsComponents, IsPi}
 use Rattle.theory.proofs.Schema.{path-start, chain-path}
 use Rattle.theory.proofs.Instance.{alike-rows}
 use Rattle.theory.proofs.Family.{components-one}
-use Rattle.meaning.specs.Lists.{all, upto, sumOf}
+use Rattle.meaning.specs.Lists.{upto, sumOf}
 use Rattle.meaning.specs.Schema.{Path, Schema, target, end, isPath}
 use Rattle.meaning.specs.PathChain.{Step, firstChain}
 use Rattle.meaning.specs.PathEquality.{firstPath}
 use Rattle.meaning.specs.Category.{Category, listedCategory}
 use Rattle.meaning.specs.Sheet.{sound, onSheet}
 use Rattle.meaning.specs.Formats.{Mapping, Instance, maxComponents, maxPaths, maxRows, pathSheet, readPathSheet, readChain, chainSheet}
-use Rattle.meaning.specs.Views.{schemaOf, mappingOf, instanceOf}
+use Rattle.meaning.specs.Views.{Shaped, schemaOf, mappingOf, instanceOf}
 use Rattle.meaning.specs.Judge.{judgePath, judgeSchema}
 use Rattle.meaning.specs.Delta.{delta}
 use Rattle.meaning.specs.Evenness.{even}
@@ -39,7 +39,7 @@ use Rattle.agreement.specs.Paths.{EqualPaths, WellFormed, pathCount}
 use Rattle.agreement.specs.PathChains.{IsFirstChain, ChainAnswers}
 use Rattle.agreement.specs.Valid.{ValidMapping}
 use Rattle.agreement.proofs.Valid.{mapping-valid, instance-valid}
-use Rattle.agreement.proofs.Tests.{refused-not-accepted, accepted-same}
+use Rattle.agreement.proofs.Tests.{refused-not-accepted, accepted-same, bind-same, bind-assoc, own-refusal, later-refusal, own-result, later-result, not-refused, Settled, settled-next, settled-apart, settled-result}
 use Rattle.agreement.proofs.Outcomes.{accepted-tray}
 use Rattle.agreement.proofs.Tables.{rows-sum}
 use Rattle.agreement.proofs.Paths.{schema-is, path-iff, path-short, identical-iff}
@@ -55,12 +55,12 @@ use Rattle.agreement.proofs.Components.{asPair, asPairs, components-are
 use Rattle.agreement.specs.Agrees.{PathAnswer, PathAnswers, Inputs, DeltaOverfull, DeltaAnswers, SigmaAnswers, Wide, PiOverfull, PiAnswers}
 
 -- a test that is false exactly where A holds is true exactly where A does not
-true-iff : {A : Type 0} (b : Bool) → (b ≡ false) ↔ A → (b ≡ true) ↔ (A → ⊥)
+pub true-iff : {A : Type 0} (b : Bool) → (b ≡ false) ↔ A → (b ≡ true) ↔ (A → ⊥)
 true-iff true h = (λ e a. no-bool (h .1 a), λ n. refl)
 true-iff false h = (λ e a. no-bool (sym e), λ n. absurd (n (h .0 refl)))
 
 -- and the other way
-false-iff : {A : Type 0} (b : Bool) → (b ≡ true) ↔ A → (b ≡ false) ↔ (A → ⊥)
+pub false-iff : {A : Type 0} (b : Bool) → (b ≡ true) ↔ A → (b ≡ false) ↔ (A → ⊥)
 false-iff true h = (λ e a. no-bool e, λ n. absurd (n (h .0 refl)))
 false-iff false h = (λ e a. no-bool (sym (h .1 a)), λ n. refl)
 
@@ -74,7 +74,7 @@ module _ {S T : Category} {F : Mapping} (v : ValidMapping S T F) where
   as-many : (d : ℕ) → d < T .schema .graph .nodes → (ks : List (ℕ × List ℕ)) → IsComponents (mappingOf (S .schema) (T .schema) F) d ks → length ks ≡ length (components S T F d)
   as-many d h ks k = ap length (components-one k (components-are v d h)) ∙ length-map (components S T F d) asPair
 
-  wide-iff : (hasFewComponents S T F ≡ false) ↔ Wide (mappingOf (S .schema) (T .schema) F)
+  pub wide-iff : (hasFewComponents S T F ≡ false) ↔ Wide (mappingOf (S .schema) (T .schema) F)
   wide-iff = (
     wide,
     λ w. test-false (hasFewComponents S T F) (λ e.
@@ -100,51 +100,35 @@ module _ {S T : Category} {F : Mapping} (v : ValidMapping S T F) where
     as-many-rows : {P : theory.Instance ℕ} → IsPi (mappingOf (S .schema) (T .schema) F) (instanceOf I) P → theory.rows (schemaOf (T .schema)) P ≡ total
     as-many-rows P-is = alike-rows (pi-only v I paired P-is) ∙ rows-sum (T .schema) (pi S T F I) (pi-shaped v I .tables)
 
-    overfull-iff : (leb total maxRows ≡ false) ↔ PiOverfull (mappingOf (S .schema) (T .schema) F) (instanceOf I)
+    pub overfull-iff : (leb total maxRows ≡ false) ↔ PiOverfull (mappingOf (S .schema) (T .schema) F) (instanceOf I)
     overfull-iff = (
       λ e. (instanceOf (pi S T F I), pi-is-pi v I paired, rw (as-many-rows (pi-is-pi v I paired)) (leb-false total maxRows e)),
       λ h. lt-leb total maxRows (rw (as-many-rows (h .1)) at (h .2)),
     )
 
--- ---- the call: 13, then 14, then 15
+module _ {S T : Category} {F : Mapping} (v : ValidMapping S T F) (J : Instance) (shaped : Shaped (T .schema) J) where
+  pub delta-overfull-iff : (leb (sumOf (delta (S .schema) F J .counts)) maxRows ≡ false) ↔ DeltaOverfull (mappingOf (S .schema) (T .schema) F) (instanceOf J)
+  delta-overfull-iff =
+      let n = sumOf (delta (S .schema) F J .counts) in
+      let e = delta-rows v J shaped in
+      (λ h. rw e (leb-false n maxRows h), λ h. lt-leb n maxRows (rw e at h))
 
--- what is yielded, by the three tests
-abbrev answer : Schema → Instance → Bool → Bool → Bool → Outcome Migrated
-answer T P p q r = do
-  _ ← ensure p 13
-  _ ← ensure q 14
-  K ← (do
-    _ ← ensure r 15
-    accepted P)
-  accepted (record { schema = T; tables = K })
+-- conditions in a row
+pub row-3 : {A B C : Type 0} → (A × (B × C)) ↔ (A × B × C)
+row-3 = (λ h. (h .0, h .1 .0, h .1 .1), λ h. (h .0, (h .1, h .2)))
 
-differ : {A : Type 0} {n m : ℕ} → (n ≡ m → ⊥) → _≡_ {A = Outcome A} (refused n 0) (refused m 0) → ⊥
-differ h e = h (cc)
+pub row-4 : {A B C D : Type 0} → (A × (B × (C × D))) ↔ (A × B × C × D)
+row-4 = (λ h. (h .0, h .1 .0, h .1 .1 .0, h .1 .1 .1), λ h. (h .0, (h .1, (h .2, h .3))))
 
-module _ (T : Schema) (P : Instance) where
-  answer-13 : (p q r : Bool) → (answer T P p q r ≡ refused 13 0) ↔ (p ≡ false)
-  answer-13 false q r = (λ e. refl, λ e. refl)
-  answer-13 true false r = (λ e. absurd (differ (λ h. omega arith) e), λ e. absurd (no-bool e))
-  answer-13 true true false = (λ e. absurd (differ (λ h. omega arith) e), λ e. absurd (no-bool e))
-  answer-13 true true true = (λ e. absurd (refused-not-accepted (sym e)), λ e. absurd (no-bool e))
+-- what one outcome yields the other does
+module _ {A X : Type 0} {p o : Outcome A} (e : p ≡ o) where
+  pub refusal-by : {n m : ℕ} → (o ≡ refused n m) ↔ X → (p ≡ refused n m) ↔ X
+  refusal-by x = (λ k. x .0 (sym e ∙ k), λ h. e ∙ x .1 h)
 
-  answer-14 : (p q r : Bool) → (answer T P p q r ≡ refused 14 0) ↔ ((p ≡ true) × (q ≡ false))
-  answer-14 false q r = (λ e. absurd (differ (λ h. omega arith) e), λ e. absurd (no-bool (sym (e .0))))
-  answer-14 true false r = (λ e. (refl, refl), λ e. refl)
-  answer-14 true true false = (λ e. absurd (differ (λ h. omega arith) e), λ e. absurd (no-bool (e .1)))
-  answer-14 true true true = (λ e. absurd (refused-not-accepted (sym e)), λ e. absurd (no-bool (e .1)))
+  pub result-by : ((a : A) × (o ≡ accepted a)) ↔ X → ((a : A) × (p ≡ accepted a)) ↔ X
+  result-by x = (λ k. x .0 (k .0, sym e ∙ k .1), λ h. let r = x .1 h in (r .0, e ∙ r .1))
 
-  answer-15 : (p q r : Bool) → (answer T P p q r ≡ refused 15 0) ↔ ((p ≡ true) × (q ≡ true) × (r ≡ false))
-  answer-15 false q r = (λ e. absurd (differ (λ h. omega arith) e), λ e. absurd (no-bool (sym (e .0))))
-  answer-15 true false r = (λ e. absurd (differ (λ h. omega arith) e), λ e. absurd (no-bool (sym (e .1))))
-  answer-15 true true false = (λ e. (refl, refl, refl), λ e. refl)
-  answer-15 true true true = (λ e. absurd (refused-not-accepted (sym e)), λ e. absurd (no-bool (e .2)))
-
-  answer-result : (p q r : Bool) → ((M : Migrated) × (answer T P p q r ≡ accepted M)) ↔ ((p ≡ true) × (q ≡ true) × (r ≡ true))
-  answer-result false q r = (λ e. absurd (refused-not-accepted (e .1)), λ e. absurd (no-bool (sym (e .0))))
-  answer-result true false r = (λ e. absurd (refused-not-accepted (e .1)), λ e. absurd (no-bool (sym (e .1))))
-  answer-result true true false = (λ e. absurd (refused-not-accepted (e .1)), λ e. absurd (no-bool (sym (e .2))))
-  answer-result true true true = (λ e. (refl, refl, refl), λ e. (record { schema = T; tables = P }, refl))
+-- ---- Pi: 13, then 14, then 15
 
 module _ (s t f i : List ℕ) {S T : Schema} {F : Mapping} {I : Instance} (x : Inputs s t f i S T S F I) where
   abbrev paired : Bool
@@ -156,111 +140,76 @@ module _ (s t f i : List ℕ) {S T : Schema} {F : Mapping} {I : Instance} (x : I
   abbrev fitting : Bool
   fitting = leb (sumOf (pi (listedCategory S) (listedCategory T) F I .counts)) maxRows
 
-  yields : piTables s t f i ≡ answer T (pi (listedCategory S) (listedCategory T) F I) paired narrow fitting
-  yields = rw (x .S-accepted, x .T-accepted, x .F-accepted, x .I-accepted)
+  abbrev joined : Outcome Migrated
+  joined = accepted (record { schema = T; tables = pi (listedCategory S) (listedCategory T) F I })
 
-  yields-iff : {o : Outcome Migrated} {A : Type 0} → (answer T (pi (listedCategory S) (listedCategory T) F I) paired narrow fitting ≡ o) ↔ A → (piTables s t f i ≡ o) ↔ A
-  yields-iff h = (λ e. h .0 (sym yields ∙ e), λ k. yields ∙ h .1 k)
+  -- what follows the tests 14 and 13
+  abbrev after14 : Outcome Migrated
+  after14 = ensure fitting 15 >>= λ _. joined
 
-  v : ValidMapping (listedCategory S) (listedCategory T) F
-  v = mapping-valid s t f (x .S-accepted) (x .T-accepted) (x .F-accepted)
+  abbrev after13 : Outcome Migrated
+  after13 = ensure narrow 14 >>= λ _. after14
 
-  pairs : (paired ≡ true) ↔ Bijective (mappingOf S T F)
-  pairs = bijective-iff v
+  yields : piTables s t f i ≡ (ensure paired 13 >>= λ _. after13)
+  yields =
+      rw (x .S-accepted, x .T-accepted, x .F-accepted, x .I-accepted) (
+      bind-same (ensure paired 13) (λ _. bind-same (ensure narrow 14) (λ _.
+      bind-assoc (ensure fitting 15) (λ _. accepted (pi (listedCategory S) (listedCategory T) F I)) (λ P. accepted (record { schema = T; tables = P })))))
+
+  settled : Settled 15 after14
+  settled = settled-next fitting 15 joined (inr (_, refl))
 
   -- which refusal of all sheets together, or a result, Pi yields
   pub pi-answers : PiAnswers s t f i (mappingOf S T F) (instanceOf I)
   pi-answers =
-      let unpaired = false-iff paired pairs in
-      let wide = wide-iff v in
-      let narrows = true-iff narrow wide in
+      let v = mapping-valid s t f (x .S-accepted) (x .T-accepted) (x .F-accepted) in
+      let pairs = bijective-iff v in
+      let narrows = true-iff narrow (wide-iff v) in
+      let full : Bijective (mappingOf S T F) → (after14 ≡ refused 15 0) ↔ PiOverfull (mappingOf S T F) (instanceOf I) =
+      λ b. own-refusal fitting 15 joined (λ _ e. refused-not-accepted (sym e)) (overfull-iff v I b) in
       record {
-        unpaired = yields-iff (
-          λ e. unpaired .0 (answer-13 T (pi (listedCategory S) (listedCategory T) F I) paired narrow fitting .0 e),
-          λ h. answer-13 T (pi (listedCategory S) (listedCategory T) F I) paired narrow fitting .1 (unpaired .1 h),
-        );
-        wide = yields-iff (
-          λ e. let r = answer-14 T (pi (listedCategory S) (listedCategory T) F I) paired narrow fitting .0 e in (pairs .0 (r .0), wide .0 (r .1)),
-          λ h. answer-14 T (pi (listedCategory S) (listedCategory T) F I) paired narrow fitting .1 (pairs .1 (h .0), wide .1 (h .1)),
-        );
-        overfull = yields-iff (
-          λ e. let r = answer-15 T (pi (listedCategory S) (listedCategory T) F I) paired narrow fitting .0 e in
-              let b = pairs .0 (r .0) in
-              (b, narrows .0 (r .1), overfull-iff v I b .0 (r .2)),
-          λ h. answer-15 T (pi (listedCategory S) (listedCategory T) F I) paired narrow fitting .1 (pairs .1 (h .0), narrows .1 (h .1), overfull-iff v I (h .0) .1 (h .2)),
-        );
-        result = (
-          λ e. let r = answer-result T (pi (listedCategory S) (listedCategory T) F I) paired narrow fitting .0 (e .0, sym yields ∙ e .1) in
-              let b = pairs .0 (r .0) in
-              (b, narrows .0 (r .1), true-iff fitting (overfull-iff v I b) .0 (r .2)),
-          λ h. let r = answer-result T (pi (listedCategory S) (listedCategory T) F I) paired narrow fitting .1 (pairs .1 (h .0), narrows .1 (h .1), true-iff fitting (overfull-iff v I (h .0)) .1 (h .2)) in
-              (r .0, yields ∙ r .1),
-        );
+        unpaired = refusal-by yields (own-refusal paired 13 after13 (λ _.
+            not-refused narrow 14 13 after14 (λ k. omega arith) (settled-apart 15 13 after14 (λ k. omega arith) settled)) (false-iff paired pairs));
+        wide = refusal-by yields (later-refusal paired 13 14 after13 (λ k. omega arith) pairs (λ _.
+            own-refusal narrow 14 after14 (λ _. settled-apart 15 14 after14 (λ k. omega arith) settled) (wide-iff v)));
+        overfull = Iff·trans (refusal-by yields (later-refusal paired 13 15 after13 (λ k. omega arith) pairs (λ b.
+            later-refusal narrow 14 15 after14 (λ k. omega arith) narrows (λ _. full b)))) row-3;
+        result = Iff·trans (result-by yields (later-result paired 13 after13 pairs (λ b.
+            later-result narrow 14 after14 narrows (λ _. settled-result 15 after14 settled (full b))))) row-3;
       }
 
 -- ---- Delta: 15
 
 module _ (s t f j : List ℕ) {S T : Schema} {F : Mapping} {J : Instance} (x : Inputs s t f j S T T F J) where
-  deltaOutcome : Bool → Outcome Migrated
-  deltaOutcome r = do
-    K ← (do
-      _ ← ensure r 15
-      accepted (delta S F J))
-    accepted (record { schema = S; tables = K })
-
-  delta-yields : deltaTables s t f j ≡ deltaOutcome (leb (sumOf (delta S F J .counts)) maxRows)
-  unfolding deltaOutcome
-  delta-yields = rw (x .S-accepted, x .T-accepted, x .F-accepted, x .I-accepted)
-
-  delta-by : (r : Bool) → ((deltaOutcome r ≡ refused 15 0) ↔ (r ≡ false)) × (((M : Migrated) × (deltaOutcome r ≡ accepted M)) ↔ (r ≡ true))
-  unfolding deltaOutcome
-  delta-by true = ((λ e. absurd (refused-not-accepted (sym e)), λ e. absurd (no-bool e)), (λ e. refl, λ e. (record { schema = S; tables = delta S F J }, refl)))
-  delta-by false = ((λ e. refl, λ e. refl), (λ e. absurd (refused-not-accepted (e .1)), λ e. absurd (no-bool (sym e))))
-
   pub delta-answers : DeltaAnswers s t f j (mappingOf S T F) (instanceOf J)
   delta-answers =
       let v = mapping-valid s t f (x .S-accepted) (x .T-accepted) (x .F-accepted) in
-      let n = sumOf (delta S F J .counts) in
-      let e = delta-rows v J (instance-valid T j (x .I-accepted) .shaped) in
-      let b = delta-by (leb n maxRows) in
-      let o : (leb n maxRows ≡ false) ↔ DeltaOverfull (mappingOf S T F) (instanceOf J) = (λ h. rw e (leb-false n maxRows h), λ h. lt-leb n maxRows (rw e at h)) in
-      let r = true-iff (leb n maxRows) o in
+      let b = leb (sumOf (delta S F J .counts)) maxRows in
+      let pulled : Outcome Migrated = accepted (record { schema = S; tables = delta S F J }) in
+      let yields : deltaTables s t f j ≡ (ensure b 15 >>= λ _. pulled) =
+      rw (x .S-accepted, x .T-accepted, x .F-accepted, x .I-accepted) (bind-assoc (ensure b 15) (λ _. accepted (delta S F J)) (λ D. accepted (record { schema = S; tables = D }))) in
+      let full = own-refusal b 15 pulled (λ _ e. refused-not-accepted (sym e)) (delta-overfull-iff v J (instance-valid T j (x .I-accepted) .shaped)) in
       record {
-        overfull = (λ h. o .0 (b .0 .0 (sym delta-yields ∙ h)), λ h. delta-yields ∙ b .0 .1 (o .1 h));
-        result = (λ h. r .0 (b .1 .0 (h .0, sym delta-yields ∙ h .1)), λ h. let k = b .1 .1 (r .1 h) in (k .0, delta-yields ∙ k .1));
+        overfull = refusal-by yields full;
+        result = result-by yields (settled-result 15 (ensure b 15 >>= λ _. pulled) (settled-next b 15 pulled (inr (_, refl))) full);
       }
 
 -- ---- Sigma: 12
 
 module _ (s t f i : List ℕ) {S T : Schema} {F : Mapping} {I : Instance} (x : Inputs s t f i S T S F I) where
-  sigmaOutcome : Bool → Outcome Migrated
-  sigmaOutcome r = do
-    _ ← ensure r 12
-    P ← ensureFits (sigma (listedCategory S) (listedCategory T) F I)
-    accepted (record { schema = T; tables = P })
-
-  sigma-yields : sigmaTables s t f i ≡ sigmaOutcome (even (listedCategory S) (listedCategory T) F)
-  unfolding sigmaOutcome
-  sigma-yields = rw (x .S-accepted, x .T-accepted, x .F-accepted, x .I-accepted)
-
-  v′ : ValidMapping (listedCategory S) (listedCategory T) F
-  v′ = mapping-valid s t f (x .S-accepted) (x .T-accepted) (x .F-accepted)
-
-  sigma-by : (r : Bool) → (r ≡ true → Even (mappingOf S T F)) → ((sigmaOutcome r ≡ refused 12 0) ↔ (r ≡ false)) × (((M : Migrated) × (sigmaOutcome r ≡ accepted M)) ↔ (r ≡ true))
-  unfolding sigmaOutcome
-  sigma-by true h =
-      let e = sigma-never-overfull v′ (h refl) (instance-valid S i (x .I-accepted)) in
-      rw e ((λ k. absurd (refused-not-accepted (sym k)), λ k. absurd (no-bool k)), (λ k. refl, λ k. (record { schema = T; tables = sigma (listedCategory S) (listedCategory T) F I }, refl)))
-  sigma-by false h = ((λ e. refl, λ e. refl), (λ e. absurd (refused-not-accepted (e .1)), λ e. absurd (no-bool (sym e))))
-
   pub sigma-answers : SigmaAnswers s t f i (mappingOf S T F)
   sigma-answers =
-      let w = even-iff v′ in
-      let b = sigma-by (even (listedCategory S) (listedCategory T) F) (w .0) in
-      let o = false-iff (even (listedCategory S) (listedCategory T) F) w in
+      let v = mapping-valid s t f (x .S-accepted) (x .T-accepted) (x .F-accepted) in
+      let w = even-iff v in
+      let b = even (listedCategory S) (listedCategory T) F in
+      let P = sigma (listedCategory S) (listedCategory T) F I in
+      let pushed : Outcome Migrated = ensureFits P >>= λ P. accepted (record { schema = T; tables = P }) in
+      let yields : sigmaTables s t f i ≡ (ensure b 12 >>= λ _. pushed) = rw (x .S-accepted, x .T-accepted, x .F-accepted, x .I-accepted) in
+      let fits : Even (mappingOf S T F) → (M : Migrated) × (pushed ≡ accepted M) =
+      λ e. (record { schema = T; tables = P }, rw (sigma-never-overfull v e (instance-valid S i (x .I-accepted)))) in
       record {
-        uneven = (λ h. o .0 (b .0 .0 (sym sigma-yields ∙ h)), λ h. sigma-yields ∙ b .0 .1 (o .1 h));
-        result = (λ h. w .0 (b .1 .0 (h .0, sym sigma-yields ∙ h .1)), λ h. let k = b .1 .1 (w .1 h) in (k .0, sigma-yields ∙ k .1));
+        uneven = refusal-by yields (own-refusal b 12 pushed (λ t e. refused-not-accepted (sym e ∙ fits (w .0 t) .1)) (false-iff b w));
+        result = result-by yields (own-result b 12 pushed w fits);
       }
 
 -- ---- the path question

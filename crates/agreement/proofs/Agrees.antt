@@ -1,23 +1,26 @@
--- Accepted schemas and the results of Delta, Sigma and Pi agree with the theory.
-use Prim.Native.Nat.{ℕ}
+-- Accepted schemas and the results of Delta, Sigma and Pi agree with the theory; and a result's sheet has no more bytes than an instance sheet can have.
+use Prim.Native.Nat.{ℕ, _≤_}
 use mathlib.Core.Path.{_≡_, refl, sym, subst}
 use mathlib.Core.List.{List}
+use lib.ListN.{length}
 use Rattle.theory.specs.Schema.{IsSchema}
 use Rattle.theory.proofs.Instance.{follow-chain}
 use Rattle.meaning.specs.Schema.{Schema}
 use Rattle.meaning.specs.Sheet.{sound}
-use Rattle.meaning.specs.Formats.{Instance}
+use Rattle.meaning.specs.Formats.{Instance, maxInstanceBytes, instanceSheet}
 use Rattle.meaning.specs.Views.{schemaOf}
 use Rattle.meaning.specs.Judge.{judgeSchema, judgeInstance}
-use Rattle.meaning.specs.Calls.{accepted, Migration, Migrated, deltaTables, sigmaTables, piTables}
+use Rattle.meaning.specs.Calls.{Outcome, accepted, Migration, Migrated, deltaTables, sigmaTables, piTables, sheetOf}
 use Rattle.meaning.proofs.Facts.{schema-facts}
+use Rattle.meaning.proofs.Written.{instance-bytes}
 use Rattle.agreement.specs.Valid.{ValidInstance}
 use Rattle.agreement.specs.Agrees.{SchemaAgrees, Lendable, Inputs, DeltaAgrees, SigmaAgrees, PiAgrees}
 use Rattle.agreement.proofs.Paths.{schema-is, paths-listed}
 use Rattle.agreement.proofs.Loops.{height-is}
 use Rattle.agreement.proofs.FirstPaths.{class-iff, class-sorted, first-is}
 use Rattle.agreement.proofs.Categories.{equal-paths-iff, unequal, schema-well-formed, listed-category}
-use Rattle.agreement.proofs.Accepted.{MigrationSound, DeltaSound, deltaResult, delta-accepted, SigmaSound, sigmaResult, sigma-accepted, PiSound, piResult, pi-accepted}
+use Rattle.agreement.proofs.Tests.{accepted-same}
+use Rattle.agreement.proofs.Accepted.{bind-accepted, MigrationSound, DeltaSound, deltaResult, delta-accepted, SigmaSound, sigmaResult, sigma-accepted, PiSound, piResult, pi-accepted}
 use Rattle.agreement.proofs.Valid.{mapping-valid, instance-valid, valid-lent-again}
 use Rattle.agreement.proofs.Evenness.{even-iff}
 use Rattle.agreement.proofs.Delta.{delta-alike, delta-valid}
@@ -42,8 +45,19 @@ schema-agrees s {S} e =
 
 -- ---- migrated tables
 
-lendable : {S : Schema} {I : Instance} → IsSchema (schemaOf S) → ValidInstance S I → Lendable S I
+pub lendable : {S : Schema} {I : Instance} → IsSchema (schemaOf S) → ValidInstance S I → Lendable S I
 lendable S-is v = record { valid = v; obeys = λ n p q h c. follow-chain S-is (v .is) n c h; lent-again = valid-lent-again v }
+
+-- the sheet of such tables, and of a call's result
+pub lendable-within : {S : Schema} {I : Instance} (s : List ℕ) → judgeSchema s ≡ sound S → Lendable S I → length (instanceSheet I) ≤ maxInstanceBytes
+lendable-within {S} {I} s e l = instance-bytes S (schema-facts s e) (instanceSheet I) (l .lent-again)
+
+pub sheet-within : (o : Outcome Migrated) (n : ℕ) → ((M : Migrated) → o ≡ accepted M → length (instanceSheet (M .tables)) ≤ n)
+    → (bytes : List ℕ) → sheetOf o ≡ accepted bytes → length bytes ≤ n
+sheet-within o n h bytes e =
+    let a = bind-accepted o (λ M. accepted (instanceSheet (M .tables))) e in
+    let k : instanceSheet (a .0 .tables) ≡ bytes = accepted-same (a .2) in
+    rw k at (h (a .0) (a .1))
 
 inputs : {s t f i : List ℕ} {m : Migration} {R : Schema} {I : Instance} → MigrationSound s t f m → judgeInstance R i ≡ sound I → Inputs s t f i (m .S) (m .T) R (m .F) I
 inputs a e = record { S-accepted = a .S-sound; T-accepted = a .T-sound; F-accepted = a .F-sound; I-accepted = e }

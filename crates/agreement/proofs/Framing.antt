@@ -1,4 +1,5 @@
--- What is read of an input: what `push` prints depends on the first four sheets alone, and sheets read one after the other are the first of their input.
+-- What is read of an input: what `push` prints depends on the first four sheets alone, what `dig` prints on the first eight, and sheets read one after the
+-- other are the first of their input.
 use Prim.Native.Nat.{ℕ, zero, suc, _+_, _-_, _*_, _≤_, _<_}
 use mathlib.Core.Path.{_≡_, refl, sym, ap, _∙_}
 use mathlib.Core.List.{List, [], _∷_, _++_, append-nil, append-assoc}
@@ -6,7 +7,7 @@ use native.Mathlib.Nat.{zero-add, add-zero}
 use native.Mathlib.Omega.{arith}
 use lib.ListN.{length, take, drop, length-drop, drop-of-length-le}
 use lib.Seq.{take-add, take-all, take-at, drop-at}
-use Rattle.meaning.specs.Program.{announced, firstSheet, laterSheets, firstFrame, frames, push}
+use Rattle.meaning.specs.Program.{announced, firstSheet, laterSheets, sheet, firstFrame, frames, push, dig}
 
 -- ---- a front, and behind it what is made of the rest
 
@@ -58,10 +59,25 @@ pub frames-once : (n : ℕ) (input : List ℕ) → frames n (frames n input) ≡
 frames-once zero input = refl
 frames-once (suc n) input = rw (frame-kept n input, later-kept n input, frames-once n (laterSheets input))
 
--- what is printed depends on the first four sheets alone
+-- each sheet among those that are read is the sheet of the whole input
+pub sheet-kept : (n k : ℕ) → n < k → (input : List ℕ) → sheet n (frames k input) ≡ sheet n input
+sheet-kept n zero h input = absurd (omega arith)
+sheet-kept zero (suc k) h input = first-kept k input
+sheet-kept (suc n) (suc k) h input = ap (sheet n) (later-kept k input) ∙ sheet-kept n k (omega arith) (laterSheets input)
+
+-- what `push` prints depends on the first four sheets alone
 pub push-frames : (input : List ℕ) → push (frames 4 input) ≡ push input
-push-frames input =
-    rw (later-kept 3 input, later-kept 2 (laterSheets input), later-kept 1 (laterSheets (laterSheets input)), first-kept 3 input, first-kept 2 (laterSheets input), first-kept 1 (laterSheets (laterSheets input)), first-kept 0 (laterSheets (laterSheets (laterSheets input))))
+push-frames input = rw (kept 0 (omega arith), kept 1 (omega arith), kept 2 (omega arith), kept 3 (omega arith))
+  where
+    kept : (n : ℕ) → n < 4 → sheet n (frames 4 input) ≡ sheet n input
+    kept n h = sheet-kept n 4 h input
+
+-- and what `dig` prints on the first eight
+pub dig-frames : (input : List ℕ) → dig (frames 8 input) ≡ dig input
+dig-frames input = rw (kept 0 (omega arith), kept 1 (omega arith), kept 2 (omega arith), kept 3 (omega arith), kept 4 (omega arith), kept 5 (omega arith), kept 6 (omega arith), kept 7 (omega arith))
+  where
+    kept : (n : ℕ) → n < 8 → sheet n (frames 8 input) ≡ sheet n input
+    kept n h = sheet-kept n 8 h input
 
 -- ---- sheets read one after the other
 

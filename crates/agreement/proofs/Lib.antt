@@ -1,4 +1,4 @@
--- Meaning agrees with theory, from paths up to demand 3, and what is read of an input; `promises` gathers what is shown.
+-- Meaning agrees with theory, from paths up to queries and demand 3, and what is read of an input; `promises` gathers what is shown.
 pub mod Paths
 pub mod Loops
 pub mod Steps
@@ -27,6 +27,8 @@ pub mod Bijections
 pub mod Pi
 pub mod AcceptedSheets
 pub mod Agrees
+pub mod Query
+pub mod Chained
 pub mod Matchings
 pub mod Turning
 pub mod Demand3

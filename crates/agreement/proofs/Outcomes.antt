@@ -17,11 +17,12 @@ use Rattle.meaning.specs.Delta.{delta}
 use Rattle.meaning.specs.Evenness.{even}
 use Rattle.meaning.specs.Sigma.{sigma}
 use Rattle.meaning.specs.Pi.{isBijective, hasFewComponents, pi}
-use Rattle.meaning.specs.Calls.{Outcome, refused, accepted, _>>=_, at, ensureFits, checkSchema, migration, checkMapping, checkInstance, pathQuestion, explanation, pathChain, Migrated, deltaTables, sigmaTables, piTables, sheetOf, Sides, sides, judgePushed, judgeRaw, checkPushed, checkRaw, pushedToRaw, rawToPushed, Lent, written, inTray, pushedSheet, rawSheet}
+use Rattle.meaning.specs.Calls.{Outcome, refused, accepted, _>>=_, at, ensure, ensureFits, checkSchema, migration, checkMapping, checkInstance, pathQuestion, explanation, pathChain, Migrated, deltaTables, sigmaTables, piTables, sheetOf, Sides, sides, judgePushed, judgeRaw, checkPushed, checkRaw, pushedToRaw, rawToPushed, Lent, written, inTray, pushedSheet, rawSheet}
+use Rattle.meaning.specs.Query.{Query, judgeQuery, ensureMappings, migrateQuery, queryTables}
 use Rattle.agreement.specs.Tests.{Refusal, Tests, done, test, Decides, holds}
-use Rattle.agreement.proofs.Tests.{refused-not-accepted, accepted-same, decides-then, decides-ensure, decides-as, decides-giving}
+use Rattle.agreement.proofs.Tests.{refused-not-accepted, accepted-same, bind-same, bind-assoc, decides-then, decides-ensure, decides-as, decides-giving}
 use Rattle.agreement.proofs.Refusals.{schema-decided, path-decided, mapping-decided, instance-decided, matching-decided}
-use Rattle.agreement.specs.CallTests.{Result, sheetTests, trayTests, rawTests, pushedTests, sidesTests, piTests, sigmaTests, deltaTests, fitsTests, pathChainTests, pathQuestionTests, checkInstanceTests, checkMappingTests, migrationTests, checkSchemaTests}
+use Rattle.agreement.specs.CallTests.{Result, sheetTests, trayTests, rawTests, pushedTests, sidesTests, judgeQueryTests, queryTests, piTests, sigmaTests, deltaTests, fitsTests, pathChainTests, pathQuestionTests, checkInstanceTests, checkMappingTests, migrationTests, checkSchemaTests}
 
 -- ---- checks, the path question and the chain between two paths
 
@@ -74,6 +75,86 @@ pi-decided s t f i =
     decides-then (decides-ensure (isBijective (m .T) (m .F)) 13) (λ _.
     decides-then (decides-ensure (hasFewComponents (listedCategory (m .S)) (listedCategory (m .T)) (m .F)) 14) (λ _.
     decides-giving (fits-decided (pi (listedCategory (m .S)) (listedCategory (m .T)) (m .F) I)) (λ P. record { schema = m .T; tables = P })))))
+
+-- ---- the query
+
+judgeQuery-decided : (s1 s2 s3 s4 f g h : List ℕ) → Decides (judgeQueryTests s1 s2 s3 s4 f g h) (judgeQuery s1 s2 s3 s4 f g h)
+judgeQuery-decided s1 s2 s3 s4 f g h =
+    decides-then (schema-decided 1 s1) (λ S1.
+    decides-then (schema-decided 2 s2) (λ S2.
+    decides-then (schema-decided 3 s3) (λ S3.
+    decides-then (schema-decided 4 s4) (λ S4.
+    decides-then (mapping-decided 5 (listedCategory S2) (listedCategory S1) f) (λ F.
+    decides-then (mapping-decided 6 (listedCategory S2) (listedCategory S3) g) (λ G.
+    decides-giving (mapping-decided 7 (listedCategory S3) (listedCategory S4) h) (λ H. record { S1 = S1; S2 = S2; S3 = S3; S4 = S4; F = F; G = G; H = H })))))))
+
+-- its tables, one after the other
+abbrev pub pulled : Query → Instance → Instance
+pulled q I = delta (q .S2) (q .F) I
+
+abbrev pub joined : Query → Instance → Instance
+joined q I = pi (listedCategory (q .S2)) (listedCategory (q .S3)) (q .G) (pulled q I)
+
+abbrev pub pushed : Query → Instance → Instance
+pushed q I = sigma (listedCategory (q .S3)) (listedCategory (q .S4)) (q .H) (joined q I)
+
+abbrev pub queryResult : Query → Instance → Migrated
+queryResult q I = record { schema = q .S4; tables = pushed q I }
+
+-- its tests after the sheets
+abbrev pub paired : Query → Bool
+paired q = isBijective (q .S3) (q .G)
+
+abbrev pub narrow : Query → Bool
+narrow q = hasFewComponents (listedCategory (q .S2)) (listedCategory (q .S3)) (q .G)
+
+abbrev pub evenly : Query → Bool
+evenly q = even (listedCategory (q .S3)) (listedCategory (q .S4)) (q .H)
+
+abbrev pub few : Instance → Bool
+few J = leb (sumOf (J .counts)) maxRows
+
+-- each test after the one before
+abbrev pub inTurn : Query → Instance → Outcome Migrated
+inTurn q I = do
+  _ ← ensure (paired q) 13
+  _ ← ensure (narrow q) 14
+  _ ← ensure (evenly q) 12
+  _ ← ensure (few (pulled q I)) 15
+  _ ← ensure (few (joined q I)) 15
+  _ ← ensure (few (pushed q I)) 15
+  accepted (queryResult q I)
+
+-- a migration, and what is made of its tables
+fits-next : {B : Type 0} (J : Instance) (f : Instance → Outcome B) → (ensureFits J >>= f) ≡ (ensure (few J) 15 >>= λ _. f J)
+fits-next J f = bind-assoc (ensure (few J) 15) (λ _. accepted J) f
+
+pub in-turn : (q : Query) (I : Instance) → (ensureMappings q >>= λ _. migrateQuery q I) ≡ inTurn q I
+in-turn q I =
+    bind-assoc (ensure (paired q) 13) (λ _. ensure (narrow q) 14 >>= λ _. ensure (evenly q) 12) (λ _. migrateQuery q I)
+    ∙ bind-same (ensure (paired q) 13) (λ _. bind-assoc (ensure (narrow q) 14) (λ _. ensure (evenly q) 12) (λ _. migrateQuery q I)
+    ∙ bind-same (ensure (narrow q) 14) (λ _. bind-same (ensure (evenly q) 12) (λ _.
+    fits-next (pulled q I) (λ D. ensureFits (pi (listedCategory (q .S2)) (listedCategory (q .S3)) (q .G) D) >>= last)
+    ∙ bind-same (ensure (few (pulled q I)) 15) (λ _. fits-next (joined q I) last
+    ∙ bind-same (ensure (few (joined q I)) 15) (λ _. fits-next (pushed q I) result)))))
+  where
+    result : Instance → Outcome Migrated
+    result Q = accepted (record { schema = q .S4; tables = Q })
+
+    last : Instance → Outcome Migrated
+    last P = ensureFits (sigma (listedCategory (q .S3)) (listedCategory (q .S4)) (q .H) P) >>= result
+
+pub query-decided : (s1 s2 s3 s4 f g h i : List ℕ) → Decides (queryTests s1 s2 s3 s4 f g h i) (queryTables s1 s2 s3 s4 f g h i)
+query-decided s1 s2 s3 s4 f g h i =
+    decides-then (judgeQuery-decided s1 s2 s3 s4 f g h) (λ q.
+    decides-then (instance-decided 8 (q .S1) i) (λ I.
+    decides-as (sym (in-turn q I)) (
+    decides-then (decides-ensure (paired q) 13) (λ _.
+    decides-then (decides-ensure (narrow q) 14) (λ _.
+    decides-then (decides-ensure (evenly q) 12) (λ _.
+    decides-then (decides-ensure (few (pulled q I)) 15) (λ _.
+    decides-then (decides-ensure (few (joined q I)) 15) (λ _.
+    decides-giving (decides-ensure (few (pushed q I)) 15) (λ _. queryResult q I)))))))))
 
 -- ---- checkers and turnings
 
@@ -137,6 +218,9 @@ module _ (tray : List ℕ) where
 
   pub pi-answer : (s t f i : List ℕ) → Decides (sheetTests tray (piTests s t f i)) (inTray tray (sheetOf (piTables s t f i)) .answer)
   pi-answer s t f i = sheet-decided (pi-decided s t f i)
+
+  pub query-answer : (s1 s2 s3 s4 f g h i : List ℕ) → Decides (sheetTests tray (queryTests s1 s2 s3 s4 f g h i)) (inTray tray (sheetOf (queryTables s1 s2 s3 s4 f g h i)) .answer)
+  query-answer s1 s2 s3 s4 f g h i = sheet-decided (query-decided s1 s2 s3 s4 f g h i)
 
   pub pathQuestion-answer : (s p : List ℕ) → Decides (trayTests tray (pathQuestionTests s p)) (inTray tray (pathQuestion s p) .answer)
   pathQuestion-answer s p = tray-decided (pathQuestion-decided s p)

@@ -1,5 +1,5 @@
--- The tests of each call, in the order of document 01: sheets by place, then 12, 13, 14, 15 at place 0, then the matching sheet, last 16; and what a
--- result leaves in a tray.
+-- The tests of each call, in the order of document 01: sheets by place, then 12, 13, 14, 15 at place 0, then the matching sheet, last 16; those of the
+-- query in that of document 02, C-15; and what a result leaves in a tray.
 use Prim.Native.Nat.{ℕ, _≤_}
 use mathlib.Core.Path.{_≡_}
 use mathlib.Core.Bool.{Bool}
@@ -16,6 +16,7 @@ use Rattle.meaning.specs.Evenness.{even}
 use Rattle.meaning.specs.Sigma.{sigma}
 use Rattle.meaning.specs.Pi.{isBijective, hasFewComponents, pi}
 use Rattle.meaning.specs.Calls.{Outcome, accepted, explanation, Migration, Migrated, Sides, inTray}
+use Rattle.meaning.specs.Query.{Query}
 use Rattle.agreement.specs.Tests.{Refusal, Tests, done, test, then, giving, holds}
 use Rattle.agreement.specs.SheetTests.{placed, schemaNumbers, schemaTests, pathNumbers, pathTests, mappingNumbers, mappingTests, instanceNumbers, instanceTests, matchingNumbers, matchingTests}
 
@@ -92,6 +93,37 @@ piTests s t f i =
     then (together 13 (isBijective (m .T) (m .F))) (λ _.
     then (together 14 (hasFewComponents (listedCategory (m .S)) (listedCategory (m .T)) (m .F))) (λ _.
     giving (fitsTests (pi (listedCategory (m .S)) (listedCategory (m .T)) (m .F) I)) (λ P. record { schema = m .T; tables = P })))))
+
+-- ---- the query (document 02, C-15): schemas, then F, G, H, then the run; then 13 and 14 for G, 12 for H, and 15 after each migration in turn
+
+abbrev pub judgeQueryRefusals : List Refusal
+judgeQueryRefusals =
+    placed 1 schemaNumbers ++ placed 2 schemaNumbers ++ placed 3 schemaNumbers ++ placed 4 schemaNumbers ++
+    placed 5 mappingNumbers ++ placed 6 mappingNumbers ++ placed 7 mappingNumbers
+
+abbrev pub judgeQueryTests : (s1 s2 s3 s4 f g h : List ℕ) → Tests Query judgeQueryRefusals
+judgeQueryTests s1 s2 s3 s4 f g h =
+    then (schemaTests 1 s1) (λ S1.
+    then (schemaTests 2 s2) (λ S2.
+    then (schemaTests 3 s3) (λ S3.
+    then (schemaTests 4 s4) (λ S4.
+    then (mappingTests 5 (listedCategory S2) (listedCategory S1) f) (λ F.
+    then (mappingTests 6 (listedCategory S2) (listedCategory S3) g) (λ G.
+    giving (mappingTests 7 (listedCategory S3) (listedCategory S4) h) (λ H. record { S1 = S1; S2 = S2; S3 = S3; S4 = S4; F = F; G = G; H = H })))))))
+
+abbrev pub queryRefusals : List Refusal
+queryRefusals = judgeQueryRefusals ++ placed 8 instanceNumbers ++ (13, 0) ∷ (14, 0) ∷ (12, 0) ∷ (15, 0) ∷ (15, 0) ∷ (15, 0) ∷ []
+
+abbrev pub queryTests : (s1 s2 s3 s4 f g h i : List ℕ) → Tests Migrated queryRefusals
+queryTests s1 s2 s3 s4 f g h i =
+    then (judgeQueryTests s1 s2 s3 s4 f g h) (λ q.
+    then (instanceTests 8 (q .S1) i) (λ I.
+    then (together 13 (isBijective (q .S3) (q .G))) (λ _.
+    then (together 14 (hasFewComponents (listedCategory (q .S2)) (listedCategory (q .S3)) (q .G))) (λ _.
+    then (together 12 (even (listedCategory (q .S3)) (listedCategory (q .S4)) (q .H))) (λ _.
+    then (fitsTests (delta (q .S2) (q .F) I)) (λ D.
+    then (fitsTests (pi (listedCategory (q .S2)) (listedCategory (q .S3)) (q .G) D)) (λ P.
+    giving (fitsTests (sigma (listedCategory (q .S3)) (listedCategory (q .S4)) (q .H) P)) (λ Q. record { schema = q .S4; tables = Q }))))))))
 
 -- ---- checkers and turnings
 

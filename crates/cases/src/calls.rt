@@ -11,6 +11,7 @@ use migration::exports::migration_pi;
 use migration::exports::migration_pushed_to_raw;
 use migration::exports::migration_raw_to_pushed;
 use migration::exports::migration_sigma;
+use query::exports::migration_query;
 
 // The calls that write into the tray.
 fn written<'a>(
@@ -21,6 +22,8 @@ fn written<'a>(
     i: &'a [u8],
     j: &'a [u8],
     k: &'a [u8],
+    l: &'a [u8],
+    m: &'a [u8],
     tray: &mut [u8],
 ) -> u64 {
     if call == 3 {
@@ -38,6 +41,9 @@ fn written<'a>(
     if call == 11 {
         return migration_path_chain(s, t, f, &mut *tray);
     }
+    if call == 12 {
+        return migration_query(s, t, f, i, j, k, l, m, &mut *tray);
+    }
     if call == 9 {
         return migration_pushed_to_raw(s, t, f, i, j, k, &mut *tray);
     }
@@ -52,6 +58,8 @@ pub(crate) fn answer<'a>(
     i: &'a [u8],
     j: &'a [u8],
     k: &'a [u8],
+    l: &'a [u8],
+    m: &'a [u8],
     tray: &mut [u8],
 ) -> u64 {
     if call == 0 {
@@ -69,5 +77,5 @@ pub(crate) fn answer<'a>(
     if call == 8 {
         return migration_check_raw(s, t, f, i, j, k);
     }
-    written(call, s, t, f, i, j, k, &mut *tray)
+    written(call, s, t, f, i, j, k, l, m, &mut *tray)
 }

@@ -18,7 +18,7 @@ const UNWRITTEN: u8 = 165;
 const TRAY: usize = 65536;
 
 // At most so many bytes are read.
-const INPUT: usize = 393216;
+const INPUT: usize = 524288;
 
 // A checksum with one byte more.
 fn mixed(sum: u64, byte: u8) -> u64 {
@@ -60,9 +60,11 @@ fn put_answer<'a>(
     i: &'a [u8],
     j: &'a [u8],
     k: &'a [u8],
+    l: &'a [u8],
+    m: &'a [u8],
     tray: &mut [u8],
 ) {
-    io::print_decimal(1, answer(call, s, t, f, i, j, k, &mut *tray));
+    io::print_decimal(1, answer(call, s, t, f, i, j, k, l, m, &mut *tray));
     io::write_all(1, b" ");
     io::print_decimal(1, checksum(&*tray));
     io::write_all(1, b"\n");
@@ -87,7 +89,9 @@ fn make_call(input: &[u8], at: usize) -> usize
     let d = sheet_at(input, c.end);
     let e = sheet_at(input, d.end);
     let f = sheet_at(input, e.end);
-    let last = f.end;
+    let g = sheet_at(input, f.end);
+    let h = sheet_at(input, g.end);
+    let last = h.end;
     if input.len() - last < 2 {
         return input.len();
     }
@@ -101,6 +105,8 @@ fn make_call(input: &[u8], at: usize) -> usize
         bytes_of(input, d),
         bytes_of(input, e),
         bytes_of(input, f),
+        bytes_of(input, g),
+        bytes_of(input, h),
         &mut tray[..room],
     );
     after(input, last)

@@ -19,3 +19,4 @@ pub mod ChainCases
 pub mod TailCase
 pub mod Cases
 pub mod MoreCases
+pub mod QueryCases

@@ -14,4 +14,5 @@ pub mod Sigma
 pub mod Pi
 pub mod Matching
 pub mod Calls
+pub mod Query
 pub mod Program

@@ -1,4 +1,4 @@
--- The push program: what it prints, of what it reads (document 01, 'Runs to check against').
+-- The programs push and dig: what they print, of what they read (document 01, 'Runs to check against'; document 02, C-15).
 use Prim.Native.Nat.{ℕ, zero, suc, _+_, _*_, _/_, _%_}
 use Prim.Native.Char.{code}
 use Prim.Native.String.{String, [] as noText, _∷_ as _before_}
@@ -12,8 +12,9 @@ use Rattle.meaning.specs.Formats.{Instance}
 use Rattle.meaning.specs.Views.{rows, link, value}
 use Rattle.meaning.specs.Evenness.{attributesAt}
 use Rattle.meaning.specs.Calls.{Outcome, refused, accepted, Migrated, sigmaTables}
+use Rattle.meaning.specs.Query.{queryTables}
 
--- ---- input: four sheets, each after its 16-bit byte length, most significant byte first
+-- ---- input: sheets, each after its 16-bit byte length, most significant byte first
 
 -- a length of fewer than two bytes counts as 0
 abbrev pub announced : List ℕ → ℕ
@@ -27,6 +28,15 @@ firstSheet input = take (announced input) (drop 2 input)
 
 abbrev pub laterSheets : List ℕ → List ℕ
 laterSheets input = drop (announced input) (drop 2 input)
+
+-- what follows the first n sheets
+abbrev pub afterSheets : ℕ → List ℕ → List ℕ
+afterSheets zero input = input
+afterSheets (suc n) input = afterSheets n (laterSheets input)
+
+-- the sheet after the first n
+abbrev pub sheet : ℕ → List ℕ → List ℕ
+sheet n input = firstSheet (afterSheets n input)
 
 -- the first sheet with its byte length
 abbrev pub firstFrame : List ℕ → List ℕ
@@ -87,10 +97,12 @@ abbrev pub shown : Outcome Migrated → List ℕ
 shown (refused n place) = line (codes "refused" ∷ decimal n ∷ decimal place ∷ [])
 shown (accepted m) = printed m
 
--- of the sheets S and T, and the input behind them
-abbrev pub pushRest : List ℕ → List ℕ → List ℕ → List ℕ
-pushRest s t input = shown (sigmaTables s t (firstSheet input) (firstSheet (laterSheets input)))
+-- ---- programs
 
 -- the sheets S, T, mapping and run; bytes after the fourth sheet are not read
 abbrev pub push : List ℕ → List ℕ
-push input = pushRest (firstSheet input) (firstSheet (laterSheets input)) (laterSheets (laterSheets input))
+push input = shown (sigmaTables (sheet 0 input) (sheet 1 input) (sheet 2 input) (sheet 3 input))
+
+-- the four schemas, F, G, H and the run, as push reads its sheets, and in that program's lines
+abbrev pub dig : List ℕ → List ℕ
+dig input = shown (queryTables (sheet 0 input) (sheet 1 input) (sheet 2 input) (sheet 3 input) (sheet 4 input) (sheet 5 input) (sheet 6 input) (sheet 7 input))

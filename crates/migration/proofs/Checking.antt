@@ -1,22 +1,20 @@
--- What judged sheets say together: the meanings of the checks, of the calls on two paths and of a mapping with its schemas.
+-- What judged sheets say together: the meanings of the checks and of the calls on paths.
 use Prim.Native.Nat.{ℕ}
 use mathlib.Core.Path.{_≡_}
 use mathlib.Core.List.{List}
 use Rattle.meaning.specs.Schema as meaning
-use Rattle.meaning.specs.Judge.{judgeSchema, judgePath, judgeMapping, judgeInstance}
-use Rattle.meaning.specs.Calls.{accepted, _>>=_, at, Migration, checkSchema, migration, checkInstance}
-use Rattle.meaning.specs.Category.{listedCategory}
+use Rattle.meaning.specs.Judge.{judgeSchema, judgePath, judgeInstance}
+use Rattle.meaning.specs.Calls.{accepted, _>>=_, at, checkSchema, checkInstance}
 use Rattle.schema.specs.declared.Schema.{Schema}
 use Rattle.schema.specs.declared.JudgedPath.{JudgedPath}
-use Rattle.schema.specs.Decoded.{graphOf, pathOf, schemaOf, judgedSchema, categoryOf}
+use Rattle.schema.specs.Decoded.{graphOf, pathOf, schemaOf, judgedSchema}
 use Rattle.schema.specs.Judged.{SoundPath, PathSays}
 use Rattle.instance.specs.declared.Instance.{Instance}
 use Rattle.instance.specs.Decoded.{tablesOf, judgedInstance}
-use Rattle.mapping.specs.declared.Mapping.{Mapping}
-use Rattle.mapping.specs.Decoded.{mappingOf, judgedMapping}
-use Rattle.migration.specs.declared.Refusal.{Refusal}
-use Rattle.migration.specs.Answers.{checkedSheet, orNext, firstRefusal, outcomeOf}
-use Rattle.migration.proofs.Refusing.{refusal, judged-at, then, yields, or-assoc, none-first, none-next}
+use Rattle.steps.specs.declared.Refusal.{Refusal}
+use Rattle.migration.specs.Answers.{checkedSheet}
+use Rattle.steps.specs.Answers.{orNext, firstRefusal, outcomeOf}
+use Rattle.steps.proofs.Refusing.{refusal, judged-at, then, yields, or-assoc, none-first, none-next}
 
 pub sheet-checked : (t : Schema) (i : Instance) (links values e : List ℕ) → judgedInstance t i links values ≡ judgeInstance (schemaOf t) e → outcomeOf (refusal (i .fault) 2) tt ≡ checkedSheet (schemaOf t) e
 sheet-checked t i links values e I = yields (refusal (i .fault) 2) (tablesOf t i links values) (judged-at (i .fault) 2 (tablesOf t i links values) I) (λ _. tt)
@@ -69,17 +67,3 @@ module _ (t : Schema) (s : List ℕ) (S : judgedSchema t ≡ judgeSchema s) wher
           record { short = P .short; path = P .path (none-next (refusal (t .fault) 1) (refusal (a .fault) 2) (none-first two (refusal (b .fault) 3) e)) },
           record { short = Q .short; path = Q .path (none-next two (refusal (b .fault) 3) e) },
         )
-
-  pub mapping-opened : (u : Schema) (m : Mapping) (z f : List ℕ) → judgedSchema u ≡ judgeSchema z → judgedMapping t m ≡ judgeMapping (categoryOf t) (categoryOf u) f
-      → outcomeOf (orNext (orNext (refusal (t .fault) 1) (refusal (u .fault) 2)) (refusal (m .fault) 3)) (record { S = schemaOf t; T = schemaOf u; F = mappingOf t m }) ≡ migration s z f
-  mapping-opened u m z f T F =
-      let result : Migration = record { S = schemaOf t; T = schemaOf u; F = mappingOf t m } in
-      rw (or-assoc (refusal (t .fault) 1) (refusal (u .fault) 2) (refusal (m .fault) 3)) (
-      then (refusal (t .fault) 1) (schemaOf t) schema-at (orNext (refusal (u .fault) 2) (refusal (m .fault) 3)) result (λ S. do
-        T ← at 2 (judgeSchema z)
-        F ← at 3 (judgeMapping (listedCategory S) (listedCategory T) f)
-        accepted (record { S = S; T = T; F = F }))
-      (then (refusal (u .fault) 2) (schemaOf u) (judged-at (u .fault) 2 (schemaOf u) T) (refusal (m .fault) 3) result (λ T. do
-        F ← at 3 (judgeMapping (categoryOf t) (listedCategory T) f)
-        accepted (record { S = schemaOf t; T = T; F = F }))
-      (yields (refusal (m .fault) 3) (mappingOf t m) (judged-at (m .fault) 3 (mappingOf t m) F) (λ F. record { S = schemaOf t; T = schemaOf u; F = F }))))

@@ -5,7 +5,8 @@ use mathlib.Core.List.{List}
 use Rattle.meaning.specs.Calls.{Outcome, refused, accepted, checkPushed, checkRaw, pushedToRaw, rawToPushed, Lent, inTray}
 use Rattle.agreement.specs.Demand3.{meaningAnswers, Provided, Clauses, AllRefuse}
 use Rattle.agreement.proofs.Demand3.{demand3, unprovided-refused}
-use Rattle.migration.specs.Answers.{verdictOf, writtenOf, lentOf}
+use Rattle.migration.specs.Answers.{verdictOf}
+use Rattle.steps.specs.Answers.{writtenOf, lentOf}
 use Rattle.migration.specs.Demand3.{Calls, MeetsContracts, answers, asVerdict, asWritten, asTurned, meaningCalls}
 
 module _ {c : Calls} (C : MeetsContracts c) where

@@ -13,22 +13,22 @@ use Rattle.theory.specs.Transposition.{raw, pushed}
 use Rattle.theory.proofs.Matching.{partners-length}
 use Rattle.meaning.specs.Lists.{all}
 use Rattle.meaning.specs.Schema.{Path, Schema}
-use Rattle.meaning.specs.Sheet.{sound}
-use Rattle.meaning.specs.Formats.{Instance, maxInstanceBytes, instanceSheet, matchingSheet}
+use Rattle.meaning.specs.Formats.{Instance, maxInstanceBytes, matchingSheet}
 use Rattle.meaning.specs.Views.{schemaOf, mappingOf, instanceOf}
 use Rattle.meaning.specs.Judge.{judgePath, judgeSchema}
-use Rattle.meaning.specs.Calls.{Outcome, refused, accepted, _>>=_, pathQuestion, pathChain, Migrated, deltaTables, sigmaTables, piTables, sheetOf, Sides, sides, judgePushed, judgeRaw, pushedToRaw, rawToPushed, inTray, rawSheet, pushedSheet}
+use Rattle.meaning.specs.Calls.{Outcome, refused, accepted, _>>=_, pathQuestion, pathChain, deltaTables, sigmaTables, piTables, sheetOf, Sides, sides, judgePushed, judgeRaw, pushedToRaw, rawToPushed, inTray, rawSheet, pushedSheet}
+use Rattle.meaning.specs.Query.{queryTables}
 use Rattle.meaning.proofs.Lists.{all-of}
 use Rattle.meaning.proofs.Tabulate.{and-both}
 use Rattle.meaning.proofs.Facts.{schema-facts}
-use Rattle.meaning.proofs.Written.{instance-bytes, path-sheet-length, matching-sheet-length, chain-sheet-length}
+use Rattle.meaning.proofs.Written.{path-sheet-length, matching-sheet-length, chain-sheet-length}
 use Rattle.agreement.specs.Paths.{EqualPaths}
 use Rattle.agreement.specs.PathChains.{ChainAnswers}
 use Rattle.agreement.specs.Tests.{Refusal, Tests, Decides}
 use Rattle.agreement.proofs.Tests.{accepted-same, decides-giving, refused-in}
 use Rattle.agreement.proofs.Paths.{path-short}
 use Rattle.agreement.proofs.Categories.{schema-well-formed}
-use Rattle.agreement.proofs.Outcomes.{checkSchema-decided, checkMapping-decided, checkInstance-decided, checkPushed-decided, checkRaw-decided, pathQuestion-answer, pathChain-answer, delta-answer, sigma-answer, pi-answer, pushedToRaw-answer, rawToPushed-answer, accepted-tray}
+use Rattle.agreement.proofs.Outcomes.{checkSchema-decided, checkMapping-decided, checkInstance-decided, checkPushed-decided, checkRaw-decided, pathQuestion-answer, pathChain-answer, delta-answer, sigma-answer, pi-answer, query-answer, pushedToRaw-answer, rawToPushed-answer, accepted-tray}
 use Rattle.agreement.proofs.Accepted.{bind-accepted, sheet-accepted, SidesSound, sides-accepted}
 use Rattle.agreement.proofs.AcceptedSheets.{path-answer, chain-answers}
 use Rattle.agreement.proofs.Tables.{rows-sum}
@@ -36,22 +36,12 @@ use Rattle.agreement.specs.Valid.{ValidInstance}
 use Rattle.agreement.proofs.Valid.{mapping-valid, instance-valid}
 use Rattle.agreement.proofs.Evenness.{even-iff}
 use Rattle.agreement.proofs.Sigma.{sigma-valid}
-use Rattle.agreement.specs.Agrees.{Lendable}
-use Rattle.agreement.proofs.Agrees.{delta-agrees, sigma-agrees, pi-agrees}
+use Rattle.agreement.proofs.Agrees.{lendable-within, sheet-within, delta-agrees, sigma-agrees, pi-agrees}
+use Rattle.agreement.proofs.Query.{query-agrees}
 use Rattle.migration.specs.Answers.{checked}
 use Rattle.migration.specs.Encoding.{Says, ExportsSay, maxPathBytes, maxMatchingBytes, maxChainBytes, Within, ResultsWithin}
 
 -- ---- byte lengths
-
-module _ {o : Outcome Migrated} where
-  sheet-within : ((M : Migrated) → o ≡ accepted M → length (instanceSheet (M .tables)) ≤ maxInstanceBytes) → Within maxInstanceBytes (sheetOf o)
-  sheet-within h bytes e =
-      let a = bind-accepted o (λ M. accepted (instanceSheet (M .tables))) e in
-      let k : instanceSheet (a .0 .tables) ≡ bytes = accepted-same (a .2) in
-      rw k at (h (a .0) (a .1))
-
-lendable-within : {S : Schema} {I : Instance} (s : List ℕ) → judgeSchema s ≡ sound S → Lendable S I → length (instanceSheet I) ≤ maxInstanceBytes
-lendable-within {S} {I} s e l = instance-bytes S (schema-facts s e) (instanceSheet I) (l .lent-again)
 
 partners-within : {S : Schema} {A : Instance} → ValidInstance S A → (m : ℕ → ℕ → ℕ) → length (matchingSheet (partners (schemaOf S) (instanceOf A) m)) ≤ maxMatchingBytes
 partners-within {S} {A} v m =
@@ -130,9 +120,12 @@ pub results-within : ResultsWithin
 results-within = record {
   first-path = path-within;
   path-chain = chain-within;
-  delta = λ s t f j. sheet-within (λ M e. let a = delta-agrees s t f j e in lendable-within s (a .inputs .S-accepted) (a .lendable));
-  sigma = λ s t f i. sheet-within (λ M e. let a = sigma-agrees s t f i e in lendable-within t (a .inputs .T-accepted) (a .lendable));
-  pi = λ s t f i. sheet-within (λ M e. let a = pi-agrees s t f i e in lendable-within t (a .inputs .T-accepted) (a .lendable));
+  delta = λ s t f j. sheet-within (deltaTables s t f j) maxInstanceBytes (λ M e. let a = delta-agrees s t f j e in lendable-within s (a .inputs .S-accepted) (a .lendable));
+  sigma = λ s t f i. sheet-within (sigmaTables s t f i) maxInstanceBytes (λ M e. let a = sigma-agrees s t f i e in lendable-within t (a .inputs .T-accepted) (a .lendable));
+  pi = λ s t f i. sheet-within (piTables s t f i) maxInstanceBytes (λ M e. let a = pi-agrees s t f i e in lendable-within t (a .inputs .T-accepted) (a .lendable));
+  query = λ s1 s2 s3 s4 f g h i. sheet-within (queryTables s1 s2 s3 s4 f g h i) maxInstanceBytes (λ M e.
+      let a = query-agrees s1 s2 s3 s4 f g h i e in
+      lendable-within s4 (a .inputs .S4-accepted) (a .lendable));
   pushed-to-raw = λ s t f i j k. turned-within s t f i j (λ x. judgePushed x k) rawSheet (λ x h l. raw-within h l);
   raw-to-pushed = λ s t f i j k. turned-within s t f i j (λ x. judgeRaw x k) pushedSheet (λ x h l. pushed-within h l);
 }
@@ -182,6 +175,7 @@ exports-say = record {
   delta = λ s t f j tray. says-bytes tray (sheetOf (deltaTables s t f j)) maxInstanceBytes (delta-answer tray s t f j) refl (results-within .delta s t f j) (omega arith);
   sigma = λ s t f i tray. says-bytes tray (sheetOf (sigmaTables s t f i)) maxInstanceBytes (sigma-answer tray s t f i) refl (results-within .sigma s t f i) (omega arith);
   pi = λ s t f i tray. says-bytes tray (sheetOf (piTables s t f i)) maxInstanceBytes (pi-answer tray s t f i) refl (results-within .pi s t f i) (omega arith);
+  query = λ s1 s2 s3 s4 f g h i tray. says-bytes tray (sheetOf (queryTables s1 s2 s3 s4 f g h i)) maxInstanceBytes (query-answer tray s1 s2 s3 s4 f g h i) refl (results-within .query s1 s2 s3 s4 f g h i) (omega arith);
   check-pushed = λ s t f i j k. says-check (checkPushed-decided s t f i j k) refl;
   check-raw = λ s t f i j k. says-check (checkRaw-decided s t f i j k) refl;
   pushed-to-raw = λ s t f i j k tray. says-bytes tray (pushedToRaw s t f i j k) maxMatchingBytes (pushedToRaw-answer tray s t f i j k) refl (results-within .pushed-to-raw s t f i j k) (omega arith);

@@ -20,16 +20,16 @@ use Rattle.meaning.specs.Calls as meaning
 use Rattle.meaning.specs.Calls.{Outcome, accepted, _>>=_, at, ensure, Migration, migration, sides, judgeRaw, judgePushed, checkRaw, checkPushed, pushedToRaw, rawToPushed}
 use Rattle.meaning.specs.Category.{listedCategory}
 use Rattle.matching.specs.Compared.{partnersOf}
-use Rattle.migration.specs.declared.Refusal.{Refusal}
-use Rattle.migration.specs.declared.open.Opened.{Opened}
+use Rattle.steps.specs.declared.Refusal.{Refusal}
+use Rattle.steps.specs.declared.open.Opened.{Opened}
 use Rattle.migration.specs.declared.sides.Sides.{Sides}
 use Rattle.migration.specs.declared.matchings.Side.{Side}
 use Rattle.migration.specs.declared.matchings.Side.the-variants as side
-use Rattle.migration.specs.Answers.{outcomeOf}
-use Rattle.migration.specs.Opened.{openedOf, Opens}
+use Rattle.steps.specs.Answers.{outcomeOf}
+use Rattle.steps.specs.Opened.{openedOf, Opens}
 use Rattle.migration.specs.Sides.{Inputs, inputs, sized, sidesOf, inputsOf, SidesSay, Rooms}
 use Rattle.migration.specs.Turnable.{Turnable, turnable, matchedSide, turnedList, turnableOf, Matches}
-use Rattle.migration.proofs.Refusing.{no-refusal, yields, stops, bind-assoc}
+use Rattle.steps.proofs.Refusing.{no-refusal, yields, stops, bind-assoc}
 use Rattle.migration.proofs.Validity.{pushed-rows}
 
 -- the inputs, then the sizes of both migrated tables

@@ -19,23 +19,18 @@ use Rattle.instance.specs.Decoded.{RoomFor}
 use Rattle.pi.specs.declared.components.Components.{Components}
 use Rattle.pi.specs.declared.families.Listing.{Listing}
 use Rattle.pi.specs.Components.{AllComponents}
-use Rattle.pi.specs.Given.{Mapped}
 use Rattle.pi.specs.Tables.{PiReady, piOf, Made, ListsPi}
-use Rattle.migration.specs.declared.Refusal.{Refusal}
-use Rattle.migration.specs.declared.open.Opened.{Opened}
+use Rattle.steps.specs.declared.Refusal.{Refusal}
+use Rattle.steps.specs.declared.open.Opened.{Opened}
 use Rattle.migration.specs.declared.joins.Joined.{Joined}
-use Rattle.migration.specs.Answers.{outcomeOf}
-use Rattle.migration.specs.Opened.{openedOf, Ready, Opens}
-use Rattle.migration.specs.Runs.{RunInput, runInput, runInputOf, RunSays}
+use Rattle.steps.specs.Answers.{outcomeOf}
+use Rattle.steps.specs.Opened.{openedOf, Opens}
+use Rattle.steps.specs.Runs.{RunInput, runInput, runInputOf, RunSays}
 use Rattle.migration.specs.Joins.{joinedRun, testedJoined, joinedOf, ListedRun, Joins}
-use Rattle.migration.specs.Migrated.{Migrates}
-use Rattle.migration.proofs.Refusing.{refusal, some-refusal, no-refusal, stops, yields, tested, bind-assoc}
-use Rattle.migration.proofs.Migrating.{size, sized}
-use Rattle.migration.proofs.Opening.{passed}
-
--- what Pi takes of the sheets of S, T and a mapping
-pub mapped : {o : Opened} → Ready o → Mapped (o .source) (o .target) (o .«target_paths») (o .mapping)
-mapped R = record { source = R .schemas .source; target = R .schemas .target; is-paths = R .schemas .target-paths; short = R .mapping .short; fits = R .mapping .fits; keeps = R .mapping .keeps }
+use Rattle.steps.specs.Migrated.{Migrates}
+use Rattle.steps.proofs.Refusing.{refusal, some-refusal, no-refusal, stops, yields, tested, bind-assoc}
+use Rattle.steps.proofs.Sizes.{size, sized}
+use Rattle.steps.proofs.Opening.{passed, mapped}
 
 -- ---- two tests in turn
 two-tested : (a b : Bool) → outcomeOf (refusal (cond a (cond b 0 14) 13) 0) tt ≡ (ensure a 13 >>= λ _. ensure b 14)

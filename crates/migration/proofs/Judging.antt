@@ -23,11 +23,11 @@ use Rattle.delta.specs.Pulled.{deltaOf, Pulled}
 use Rattle.sigma.specs.Pushed.{Pushed}
 use Rattle.matching.specs.Compared.{partnersOf, Comparable}
 use Rattle.migration.specs.declared.sides.Sides.{Sides}
-use Rattle.migration.specs.Answers.{outcomeOf}
+use Rattle.steps.specs.Answers.{outcomeOf}
 use Rattle.migration.specs.Sides.{Inputs, sized, sidesOf, inputsOf, Migratable}
 use Rattle.migration.specs.Matched.{judgedMatching, rawList, pushedList}
-use Rattle.migration.proofs.Refusing.{refusal, some-refusal, judged-at}
-use Rattle.migration.proofs.Opening.{passed}
+use Rattle.steps.proofs.Refusing.{refusal, some-refusal, judged-at}
+use Rattle.steps.proofs.Opening.{passed}
 use Rattle.migration.proofs.Validity.{pushed-valid, pushed-rows, pushed-links-in}
 
 module _ {x : Sides} {links values links′ values′ : List ℕ} (M : Migratable x links values links′ values′) where

@@ -1,5 +1,4 @@
--- Laws of refusals in their order, of opened sheets and migrated tables, demand 3, and what an export's number says.
-pub mod Refusing
+-- Laws of opened sheets and migrated tables, of trays, demand 3, and what an export's number says.
 pub mod Checking
 pub mod Trays
 pub mod Migrating
@@ -7,7 +6,6 @@ pub mod Pushing
 pub mod Joining
 pub mod Opening
 pub mod Partners
-pub mod Texts
 pub mod Validity
 pub mod Judging
 pub mod Grouping

@@ -1,7 +1,7 @@
 -- What the sheets of a mapping, a run and a book say together.
 use Prim.Native.Nat.{ℕ}
 use mathlib.Core.Path.{_≡_, refl, sym, ap, _∙_}
-use mathlib.Core.Bool.{Bool, true, false, cond}
+use mathlib.Core.Bool.{Bool, cond}
 use mathlib.Core.List.{List}
 use native.Mathlib.Omega.{arith}
 use Rattle.meaning.specs.Judge.{judgeInstance}
@@ -13,22 +13,14 @@ use Rattle.mapping.specs.Decoded.{mappingOf}
 use Rattle.instance.specs.declared.Instance.{Instance}
 use Rattle.instance.specs.Decoded.{tablesOf}
 use Rattle.instance.specs.Tested.{Tested}
-use Rattle.migration.specs.declared.Refusal.{Refusal}
-use Rattle.migration.specs.declared.open.Opened.{Opened}
-use Rattle.migration.specs.Answers.{orNext, outcomeOf}
-use Rattle.migration.specs.Opened.{migrationOf, Ready, Opens, IsOpened}
-use Rattle.migration.specs.Runs.{RunInput, runInput, runInputOf, RunSays}
+use Rattle.steps.specs.declared.Refusal.{Refusal}
+use Rattle.steps.specs.declared.open.Opened.{Opened}
+use Rattle.steps.specs.Answers.{orNext, outcomeOf}
+use Rattle.steps.specs.Opened.{migrationOf, Ready, Opens}
+use Rattle.steps.specs.Runs.{RunInput, runInput, runInputOf, RunSays}
 use Rattle.migration.specs.Sides.{Inputs, inputs, SidesSay}
-use Rattle.migration.proofs.Refusing.{refusal, judged-at, then, yields, tested, or-none, or-some, or-assoc, none-first, none-next}
-
--- a test that was passed
-pub passed : (b : Bool) (n : ℕ) → (n ≡ 0 → ⊥) → cond b 0 n ≡ 0 → b ≡ true
-passed true n some e = refl
-passed false n some e = absurd (some e)
-
--- what opened sheets say
-pub is-opened : {o : Opened} {M : Outcome Migration} → Opens o M → IsOpened o
-is-opened O = record { says = refl; schemas = O .schemas; ready = O .ready }
+use Rattle.steps.proofs.Refusing.{refusal, judged-at, then, yields, tested, or-none, or-some, or-assoc, none-first, none-next}
+use Rattle.steps.proofs.Opening.{passed}
 
 -- ---- a mapping and a run
 module _ (o : Opened) {M : Outcome Migration} (O : Opens o M) (run : Instance) (links values i : List ℕ) (I : Tested (o .source) run links values (judgeInstance (schemaOf (o .source)) i)) where

@@ -4,31 +4,27 @@ use mathlib.Core.Path.{_≡_, refl, sym, ap, _∙_}
 use mathlib.Core.Bool.{Bool, cond}
 use mathlib.Core.List.{List}
 use native.Mathlib.Omega.{arith}
-use lib.Dec.{leb}
-use Rattle.meaning.specs.Lists.{sumOf}
 use Rattle.meaning.specs.Formats as formats
-use Rattle.meaning.specs.Formats.{maxRows}
 use Rattle.meaning.specs.Evenness.{even}
 use Rattle.meaning.specs.Judge.{judgeInstance}
 use Rattle.meaning.specs.Calls as meaning
 use Rattle.meaning.specs.Calls.{Outcome, _>>=_, at, ensure, Migration, migration, sigmaTables}
 use Rattle.meaning.specs.Category.{listedCategory}
-use Rattle.schema.specs.Decoded.{schemaOf, frontOf, categoryOf}
-use Rattle.schema.specs.Judged.{Sound}
+use Rattle.schema.specs.Decoded.{schemaOf, categoryOf}
 use Rattle.mapping.specs.Decoded.{mappingOf}
 use Rattle.instance.specs.declared.Instance.{Instance}
 use Rattle.instance.specs.Decoded.{RoomFor}
-use Rattle.sigma.specs.Pushed.{sigmaOf, Pushed}
-use Rattle.migration.specs.declared.Refusal.{Refusal}
-use Rattle.migration.specs.declared.open.Opened.{Opened}
-use Rattle.migration.specs.declared.results.Migrated.{Migrated}
-use Rattle.migration.specs.Answers.{outcomeOf}
-use Rattle.migration.specs.Opened.{openedOf, Opens}
-use Rattle.migration.specs.Runs.{RunInput, runInput, pushedRun, evenlyPushed, runInputOf, RunSays, PushableRun}
-use Rattle.migration.specs.Migrated.{Migrates}
-use Rattle.migration.proofs.Refusing.{refusal, no-refusal, stops, yields, tested, bind-assoc}
-use Rattle.migration.proofs.Migrating.{size, sized, made, stopped}
-use Rattle.migration.proofs.Opening.{passed}
+use Rattle.sigma.specs.Pushed.{sigmaOf}
+use Rattle.steps.specs.declared.Refusal.{Refusal}
+use Rattle.steps.specs.declared.open.Opened.{Opened}
+use Rattle.steps.specs.declared.results.Migrated.{Migrated}
+use Rattle.steps.specs.Answers.{outcomeOf}
+use Rattle.steps.specs.Opened.{openedOf, Opens}
+use Rattle.steps.specs.Runs.{RunInput, runInput, pushedRun, evenlyPushed, runInputOf, RunSays, PushableRun}
+use Rattle.steps.specs.Migrated.{Migrates}
+use Rattle.steps.proofs.Refusing.{refusal, no-refusal, stops, tested, bind-assoc}
+use Rattle.steps.proofs.Sizes.{stopped}
+use Rattle.steps.proofs.Opening.{passed}
 
 abbrev rest : RunInput → Outcome meaning.Migrated
 rest y = ensure (even (listedCategory (y .m .S)) (listedCategory (y .m .T)) (y .m .F)) 12 >>= λ _. pushedRun y
@@ -45,15 +41,6 @@ module _ (o : Opened) (run : Instance) (links values : List ℕ) where
 
   abbrev input : RunInput
   input = runInputOf o run links values
-
-  -- Sigma's tables, of their size
-  pub push-made : Sound (o .target) → {r : Instance} {followed copied : List ℕ} {n : ℕ} → Pushed (o .source) (o .target) (o .mapping) run links values r followed copied
-      → n ≡ cond (leb (sumOf (frontOf (o .target .graph .nodes) (r .counts))) maxRows) 0 15 → RoomFor (o .target) followed copied
-      → Migrates (record { refusal = refusal n 0; schema = o .target; tables = r }) followed copied (pushedRun input)
-  push-made S p d R =
-      made S R (p .long) d (
-      ap (λ (J : formats.Instance). outcomeOf (size J) (record { schema = schemaOf (o .target); tables = J })) (p .says) ∙
-      yields (size tables) tables (sized tables) (λ P. record { schema = schemaOf (o .target); tables = P }))
 
   module _ {r : Refusal} {X : Outcome RunInput} (I : RunSays o r run links values X) where
     -- a sheet was refused

@@ -1,71 +1,30 @@
--- A result in a lent tray: written where there is room for it, or refused with the tray as it was.
+-- The sheets of a path and of a chain in a lent tray: written where there is room for them, or refused with the tray as it was.
 use Prim.Native.Nat.{ℕ, _+_, _*_, _≤_, _<_}
 use mathlib.Core.Path.{_≡_, refl, sym, ap, _∙_}
 use mathlib.Core.Bool.{Bool, true, false, cond}
 use mathlib.Core.List.{List, map}
 use mathlib.Core.Option.{Option}
 use native.Mathlib.Omega.{arith}
-use borrow.Author.Tests.{le-leb, lt-leb, le-ltb, lt-ltb, ne-eqb, eqb-true}
+use borrow.Author.Tests.{le-leb, le-ltb, lt-ltb, ne-eqb, eqb-true}
 use lib.ListN.{length, getD, length-map}
 use lib.Dec.{eqb}
 use Rattle.bits.specs.Field.{bytesFor}
 use Rattle.theory.proofs.Numbering.{tabulate-length}
 use Rattle.meaning.specs.PathChain.{Step}
 use Rattle.meaning.specs.Schema.{Path, path}
-use Rattle.meaning.specs.Formats.{pathSheet, instanceSheet, chainSheet}
-use Rattle.meaning.specs.Calls as meaning
-use Rattle.meaning.specs.Calls.{Outcome, refused, accepted, explanation, sheetOf, Lent, written, inTray}
+use Rattle.meaning.specs.Formats.{pathSheet, chainSheet}
+use Rattle.meaning.specs.Calls.{Outcome, refused, accepted, explanation, Lent, written, inTray}
 use Rattle.meaning.proofs.StepNumbers.{stepOf}
 use Rattle.meaning.proofs.Written.{path-sheet-length, chain-sheet-length}
 use Rattle.schema.specs.Decoded.{frontOf}
 use Rattle.chain.specs.Found.{chainOf}
-use Rattle.instance.specs.Decoded.{tablesOf}
-use Rattle.encoding.specs.Written.{Written, sheetBytes}
-use Rattle.encoding.proofs.Writing.{sheet-length}
-use Rattle.migration.specs.declared.Refusal.{Refusal}
+use Rattle.encoding.specs.Written.{Written}
+use Rattle.steps.specs.declared.Refusal.{Refusal}
 use Rattle.migration.specs.declared.Explained.{Explained}
 use Rattle.migration.specs.declared.Explained.the-variants as explain
-use Rattle.migration.specs.declared.results.Migrated.{Migrated}
-use Rattle.migration.specs.Answers.{explainedOf, explanationOf, explained, encoded, returned, outcomeOf}
-use Rattle.migration.specs.Migrated.{migratedOf}
-use Rattle.migration.proofs.Refusing.{no-refusal, some-refusal}
-
-abbrev pub lent : Outcome ℕ → List ℕ → Lent
-lent answer tray = record { answer = answer; tray = tray }
-
-module _ (bytes tray : List ℕ) where
-  pub tray-written : {n : ℕ} {out : List ℕ} → length bytes ≤ length tray → Written bytes tray n out → lent (accepted n) out ≡ written tray bytes
-  tray-written h w = rw (w .length-is, w .says, le-leb (length bytes) (length tray) h)
-
-  pub tray-small : length tray < length bytes → lent (refused 16 0) tray ≡ written tray bytes
-  tray-small h = rw (lt-leb (length bytes) (length tray) h)
-
-module _ (r : Refusal) (bytes tray : List ℕ) where
-  pub outcome-written : r .number ≡ 0 → written tray bytes ≡ inTray tray (outcomeOf r bytes)
-  outcome-written e = ap (inTray tray) (sym (no-refusal r bytes e))
-
-  pub outcome-refused : (r .number ≡ 0 → ⊥) → lent (refused (r .number) (r .place)) tray ≡ inTray tray (outcomeOf r bytes)
-  outcome-refused e = ap (inTray tray) (sym (some-refusal r bytes e))
-
-module _ (m : Migrated) (links values tray : List ℕ) where
-  abbrev sheet : List ℕ
-  sheet = instanceSheet (tablesOf (m .schema) (m .tables) links values)
-
-  abbrev told : Lent
-  told = inTray tray (sheetOf (outcomeOf (m .refusal) (migratedOf m links values)))
-
-  pub migrated-refused : (m .refusal .number ≡ 0 → ⊥) → lent (refused (m .refusal .number) (m .refusal .place)) tray ≡ told
-  migrated-refused e = ap (λ (o : Outcome meaning.Migrated). inTray tray (sheetOf o)) (sym (some-refusal (m .refusal) (migratedOf m links values) e))
-
-  module _ (e : m .refusal .number ≡ 0) where
-    migrated-told : written tray sheet ≡ told
-    migrated-told = ap (λ (o : Outcome meaning.Migrated). inTray tray (sheetOf o)) (sym (no-refusal (m .refusal) (migratedOf m links values) e))
-
-    pub migrated-written : {n : ℕ} {out : List ℕ} → sheetBytes (m .schema) (m .tables) ≤ length tray → Written sheet tray n out → lent (accepted n) out ≡ told
-    migrated-written h w = tray-written sheet tray (omega (arith, sheet-length (m .schema) (m .tables) links values)) w ∙ migrated-told
-
-    pub migrated-small : length tray < sheetBytes (m .schema) (m .tables) → lent (refused 16 0) tray ≡ told
-    migrated-small h = tray-small sheet tray (omega (arith, sheet-length (m .schema) (m .tables) links values)) ∙ migrated-told
+use Rattle.migration.specs.Answers.{explainedOf, explanationOf, explained, encoded, returned}
+use Rattle.steps.specs.Answers.{outcomeOf}
+use Rattle.steps.proofs.Trays.{lent, tray-written, tray-small, outcome-refused}
 
 -- ---- the first path of a class, by its start and its edges
 module _ (tray : List ℕ) (start n : ℕ) (l : List ℕ) {g : Path} (e : path start (frontOf n l) ≡ g) where

@@ -23,7 +23,7 @@ use Rattle.matching.specs.Turned.{mappingBetween, countsOf, PushedCounts}
 use Rattle.migration.specs.declared.sides.Sides.{Sides}
 use Rattle.migration.specs.declared.matchings.Side.the-variants as side
 use Rattle.migration.specs.Turnable.{turnableOf, pushedOf, turnedList, ReadyToTurn}
-use Rattle.migration.proofs.Validity.{ready-valid}
+use Rattle.steps.proofs.Validity.{ready-valid}
 
 module _ {x : Sides} (R : ReadyToTurn x) {p : Instance} (C : Counted (x .opened .source) (x .opened .target) (x .opened .mapping) (x .run) p) where
   abbrev counts : List ℕ

@@ -7,21 +7,16 @@ use lib.Dec.{eqb}
 use Rattle.meaning.specs.Schema.{Schema}
 use Rattle.meaning.specs.Judge.{judgeInstance}
 use Rattle.meaning.specs.Calls.{Outcome, refused, accepted, _>>=_, at, checkPushed, checkRaw, pushedToRaw, rawToPushed, Lent, inTray}
-use Rattle.migration.specs.declared.Refusal.{Refusal}
 use Rattle.migration.specs.declared.Verdict.{Verdict}
 use Rattle.migration.specs.declared.Verdict.the-variants as verdict
 use Rattle.migration.specs.declared.Explained.{Explained}
 use Rattle.migration.specs.declared.Explained.the-variants as explain
-use Rattle.migration.specs.declared.Written.{Written}
-use Rattle.migration.specs.declared.Written.the-variants as written
+use Rattle.steps.specs.declared.Written.{Written}
+use Rattle.steps.specs.Answers.{lentOf}
 
 abbrev pub verdictOf : Verdict → Outcome (Unit {0})
 verdictOf verdict.Accepted = accepted tt
 verdictOf (verdict.Refused r) = refused (r .number) (r .place)
-
-abbrev pub writtenOf : Written → Outcome ℕ
-writtenOf (written.Bytes n) = accepted n
-writtenOf (written.Refused r) = refused (r .number) (r .place)
 
 abbrev pub explainedOf : Explained → Outcome ℕ
 explainedOf (explain.Chain n) = accepted n
@@ -35,10 +30,6 @@ explanationOf (refused n place) = explain.Refused (record { number = n; place = 
 
 abbrev pub explained : Lent → Explained × List ℕ
 explained l = (explanationOf (l .answer), l .tray)
-
--- an answer and the tray that it leaves
-abbrev pub lentOf : Written → List ℕ → Lent
-lentOf r tray = record { answer = writtenOf r; tray = tray }
 
 -- an instance sheet at place 2
 abbrev pub checkedSheet : Schema → List ℕ → Outcome (Unit {0})
@@ -77,16 +68,3 @@ checked o = do
 -- a byte length, and the tray
 abbrev pub returned : Lent → ℕ × List ℕ
 returned l = (encoded (l .answer), l .tray)
-
--- ---- inside the library: a refusal with the number 0 is none
-
--- the first of two refusals
-abbrev pub orNext : Refusal → Refusal → Refusal
-orNext r next = cond (eqb (r .number) 0) next r
-
-abbrev pub firstRefusal : ℕ → ℕ → ℕ → Refusal
-firstRefusal a b c = orNext (orNext (record { number = a; place = 1 }) (record { number = b; place = 2 })) (record { number = c; place = 3 })
-
-module _ {A : Type 0} where
-  abbrev pub outcomeOf : Refusal → A → Outcome A
-  outcomeOf r a = cond (eqb (r .number) 0) (accepted a) (refused (r .number) (r .place))

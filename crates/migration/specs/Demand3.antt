@@ -6,9 +6,10 @@ use Rattle.meaning.specs.Calls.{Outcome, refused, accepted, checkPushed, checkR
 use Rattle.agreement.specs.Demand3.{Turning, Answers}
 use Rattle.migration.specs.declared.Verdict.{Verdict}
 use Rattle.migration.specs.declared.Verdict.the-variants as verdict
-use Rattle.migration.specs.declared.Written.{Written}
-use Rattle.migration.specs.declared.Written.the-variants as written
-use Rattle.migration.specs.Answers.{verdictOf, lentOf, PushedChecked, RawChecked, TurnedToRaw, TurnedToPushed}
+use Rattle.steps.specs.declared.Written.{Written}
+use Rattle.steps.specs.declared.Written.the-variants as written
+use Rattle.migration.specs.Answers.{verdictOf, PushedChecked, RawChecked, TurnedToRaw, TurnedToPushed}
+use Rattle.steps.specs.Answers.{lentOf}
 
 -- of the sheets s, t, f, run, book and list
 abbrev pub Checker : Type 0

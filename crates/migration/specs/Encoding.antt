@@ -8,6 +8,7 @@ use lib.ListN.{length}
 use lib.Dec.{ltb}
 use Rattle.meaning.specs.Formats.{maxInstanceBytes}
 use Rattle.meaning.specs.Calls.{Outcome, refused, accepted, checkSchema, checkMapping, checkInstance, pathQuestion, pathChain, deltaTables, sigmaTables, piTables, sheetOf, checkPushed, checkRaw, pushedToRaw, rawToPushed, inTray}
+use Rattle.meaning.specs.Query.{queryTables}
 use Rattle.migration.specs.Answers.{encoded, checked}
 
 -- below 2^32 a result; else the number in bits 8 to 15, the place in bits 0 to 7
@@ -26,6 +27,7 @@ pub record ExportsSay : Type 0 where
   pub delta : (s t f j tray : List ℕ) → Says (inTray tray (sheetOf (deltaTables s t f j)) .answer)
   pub sigma : (s t f i tray : List ℕ) → Says (inTray tray (sheetOf (sigmaTables s t f i)) .answer)
   pub pi : (s t f i tray : List ℕ) → Says (inTray tray (sheetOf (piTables s t f i)) .answer)
+  pub query : (s1 s2 s3 s4 f g h i tray : List ℕ) → Says (inTray tray (sheetOf (queryTables s1 s2 s3 s4 f g h i)) .answer)
   pub check-pushed : (s t f i j k : List ℕ) → Says (checked (checkPushed s t f i j k))
   pub check-raw : (s t f i j k : List ℕ) → Says (checked (checkRaw s t f i j k))
   pub pushed-to-raw : (s t f i j k tray : List ℕ) → Says (inTray tray (pushedToRaw s t f i j k) .answer)
@@ -55,5 +57,6 @@ pub record ResultsWithin : Type 0 where
   pub delta : (s t f j : List ℕ) → Within maxInstanceBytes (sheetOf (deltaTables s t f j))
   pub sigma : (s t f i : List ℕ) → Within maxInstanceBytes (sheetOf (sigmaTables s t f i))
   pub pi : (s t f i : List ℕ) → Within maxInstanceBytes (sheetOf (piTables s t f i))
+  pub query : (s1 s2 s3 s4 f g h i : List ℕ) → Within maxInstanceBytes (sheetOf (queryTables s1 s2 s3 s4 f g h i))
   pub pushed-to-raw : (s t f i j k : List ℕ) → Within maxMatchingBytes (pushedToRaw s t f i j k)
   pub raw-to-pushed : (s t f i j k : List ℕ) → Within maxMatchingBytes (rawToPushed s t f i j k)

@@ -8,10 +8,10 @@ use Rattle.meaning.specs.Calls.{Outcome, accepted, _>>=_, ensure, ensureFits}
 use Rattle.meaning.specs.Category.{listedCategory}
 use Rattle.schema.specs.Decoded.{schemaOf}
 use Rattle.pi.specs.Tables.{tablesFrom, Listed}
-use Rattle.migration.specs.declared.open.Opened.{Opened}
+use Rattle.steps.specs.declared.open.Opened.{Opened}
 use Rattle.migration.specs.declared.joins.Joined.{Joined}
-use Rattle.migration.specs.Answers.{outcomeOf}
-use Rattle.migration.specs.Runs.{RunInput}
+use Rattle.steps.specs.Answers.{outcomeOf}
+use Rattle.steps.specs.Runs.{RunInput}
 
 -- Pi of the run, and its size
 abbrev pub joinedRun : RunInput → Outcome meaning.Migrated

@@ -1,12 +1,9 @@
--- What the contracts of the calls say: answers, opened sheets, migrated tables, matched sides, demand 3.
+-- What the contracts of the calls say: answers, books, joins, matched sides, demand 3.
 pub mod Answers
-pub mod Opened
-pub mod Runs
+pub mod Books
 pub mod Joins
-pub mod Migrated
 pub mod Sides
 pub mod Matched
-pub mod Printed
 pub mod Turnable
 pub mod Demand3
 pub mod Encoding

@@ -15,10 +15,10 @@ use Rattle.schema.specs.Decoded.{categoryOf}
 use Rattle.mapping.specs.Decoded.{mappingOf}
 use Rattle.instance.specs.Decoded.{tablesOf, Limits, RoomFor}
 use Rattle.instance.specs.Tested.{Accepted}
-use Rattle.migration.specs.declared.open.Opened.{Opened}
+use Rattle.steps.specs.declared.open.Opened.{Opened}
 use Rattle.migration.specs.declared.sides.Sides.{Sides}
-use Rattle.migration.specs.Answers.{outcomeOf}
-use Rattle.migration.specs.Opened.{migrationOf, Ready}
+use Rattle.steps.specs.Answers.{outcomeOf}
+use Rattle.steps.specs.Opened.{migrationOf, Ready}
 
 -- a mapping with its schemas, a run and a book
 pub record Inputs : Type 0 where

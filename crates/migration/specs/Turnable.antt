@@ -15,8 +15,8 @@ use Rattle.matching.specs.Compared.{partnersOf}
 use Rattle.migration.specs.declared.sides.Sides.{Sides}
 use Rattle.migration.specs.declared.matchings.Side.{Side}
 use Rattle.migration.specs.declared.matchings.Side.the-variants as side
-use Rattle.migration.specs.Answers.{outcomeOf}
-use Rattle.migration.specs.Opened.{migrationOf, Ready}
+use Rattle.steps.specs.Answers.{outcomeOf}
+use Rattle.steps.specs.Opened.{migrationOf, Ready}
 use Rattle.migration.specs.Sides.{Inputs, inputs}
 use Rattle.migration.specs.Matched.{sideList}
 

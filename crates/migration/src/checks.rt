@@ -1,5 +1,4 @@
 // The checks of schemas, mappings, instances and matchings.
-use crate::Refusal;
 use crate::Verdict;
 use crate::matchings::Side;
 use crate::matchings::match_side;
@@ -10,13 +9,15 @@ use mapping::judge_mapping;
 use paths::path_table;
 use schema::Schema;
 use schema::judge_schema;
+use steps::Refusal;
 ghost use mathlib.Core.Path.{_≡_};
 ghost use mathlib.Core.Bool.{true};
 ghost use Rattle.meaning.specs.Calls.{checkSchema, checkMapping, checkInstance};
 ghost use Rattle.schema.specs.Decoded.{schemaOf};
 ghost use Rattle.schema.specs.Judged.{Sound};
 ghost use Rattle.instance.specs.Decoded.{hasFewColumns};
-ghost use Rattle.migration.specs.Answers.{checkedSheet, outcomeOf, verdictOf, PushedChecked, RawChecked};
+ghost use Rattle.migration.specs.Answers.{checkedSheet, verdictOf, PushedChecked, RawChecked};
+ghost use Rattle.steps.specs.Answers.{outcomeOf};
 
 // The verdict of a refusal, which may be none.
 fn verdict(refusal: Refusal) -> Verdict

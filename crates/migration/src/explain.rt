@@ -1,6 +1,5 @@
 // Which steps make two paths equal: the chain from one to the other, written into a lent tray.
 use crate::Explained;
-use crate::Refusal;
 use chain::first_chain;
 use encoding::chains::chain_length;
 use encoding::chains::write_chain;
@@ -8,6 +7,7 @@ use schema::Path;
 use schema::Schema;
 use schema::judge_path;
 use schema::judge_schema;
+use steps::Refusal;
 ghost use mathlib.Core.Path.{_≡_};
 ghost use Rattle.meaning.specs.PathChain.{firstChain};
 ghost use Rattle.meaning.specs.Calls.{accepted, explanation, pathChain, inTray};

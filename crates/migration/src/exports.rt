@@ -1,9 +1,7 @@
 // The calls for C, a slice as its address and its length. An answer is one number: a result as itself (0 for an accepted check, a byte length,
 // which is 0 where there is no chain), a refusal as 2^32 + 256 * number + place.
 use crate::Explained;
-use crate::Refusal;
 use crate::Verdict;
-use crate::Written;
 use crate::checks::check_instance;
 use crate::checks::check_mapping;
 use crate::checks::check_pushed;
@@ -16,9 +14,12 @@ use crate::migrate::delta;
 use crate::migrate::sigma;
 use crate::turnings::pushed_to_raw;
 use crate::turnings::raw_to_pushed;
+use steps::Refusal;
+use steps::Written;
 ghost use mathlib.Core.Path.{_≡_};
 ghost use Rattle.meaning.specs.Calls.{refused, checkSchema, checkMapping, checkInstance, pathQuestion, pathChain, deltaTables, sigmaTables, piTables, sheetOf, checkPushed, checkRaw, pushedToRaw, rawToPushed, inTray};
-ghost use Rattle.migration.specs.Answers.{verdictOf, explainedOf, writtenOf, encoded, checked, returned};
+ghost use Rattle.migration.specs.Answers.{verdictOf, explainedOf, encoded, checked, returned};
+ghost use Rattle.steps.specs.Answers.{writtenOf};
 
 // A refusal as a number.
 fn refusal_number(refusal: Refusal) -> u64
@@ -49,7 +50,7 @@ fn explained_number(answer: Explained) -> u64
 }
 
 // A byte length or a refusal as a number.
-fn written_number(written: Written) -> u64
+pub fn written_number(written: Written) -> u64
     ensures { λ r. ⌜ r ≡ encoded (writtenOf written) ⌝ }
 {
     match written {

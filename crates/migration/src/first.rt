@@ -1,6 +1,4 @@
 // The path question: the first of the paths that are equal to a path, written into a lent tray.
-use crate::Refusal;
-use crate::Written;
 use encoding::paths::path_length;
 use encoding::paths::write_path;
 use mapping::edges::first_edges;
@@ -8,13 +6,15 @@ use schema::Path;
 use schema::Schema;
 use schema::judge_path;
 use schema::judge_schema;
+use steps::Refusal;
+use steps::Written;
 ghost use mathlib.Core.Path.{_≡_};
 ghost use Rattle.meaning.specs.PathEquality.{firstPath};
 ghost use Rattle.meaning.specs.Formats.{pathSheet};
 ghost use Rattle.meaning.specs.Calls.{accepted, pathQuestion, inTray};
 ghost use Rattle.schema.specs.Decoded.{pathOf, schemaOf};
 ghost use Rattle.schema.specs.Judged.{Sound, SoundPath};
-ghost use Rattle.migration.specs.Answers.{lentOf};
+ghost use Rattle.steps.specs.Answers.{lentOf};
 
 // The first path of the class of a path of a judged schema, into a tray.
 fn write_first(t: Schema, a: Path, tray: &mut [u8]) -> Written

@@ -1,35 +1,31 @@
 // Pi, of lent sheets into a lent tray: the families of a run are listed first, and its tables made of them after.
-use crate::Refusal;
-use crate::Written;
-use crate::open::Opened;
-use crate::open::open;
-use crate::results::Migrated;
-use crate::results::write_migrated;
 use instance::Instance;
 use instance::has_few_columns;
 use instance::judge_instance;
-use mapping::attributes::is_bijective;
 use pi::components::Components;
 use pi::families::Listing;
 use pi::families::list_families;
 use pi::gather::components;
-use pi::gather::has_few_components;
 use schema::Schema;
+use steps::Refusal;
+use steps::Written;
+use steps::open::Opened;
+use steps::open::open;
+use steps::results::Migrated;
+use steps::results::write_migrated;
+use steps::tests::unjoinable;
+use steps::tests::unlisted;
 ghost use mathlib.Core.Path.{_≡_};
-ghost use mathlib.Core.Bool.{true, cond};
+ghost use mathlib.Core.Bool.{true};
 ghost use lib.ListN.{length};
 ghost use Rattle.meaning.specs.Calls.{piTables, sheetOf, inTray};
-ghost use Rattle.meaning.specs.Pi.{isBijective, hasFewComponents};
-ghost use Rattle.schema.specs.Decoded.{schemaOf, categoryOf};
 ghost use Rattle.schema.specs.Judged.{Sound};
-ghost use Rattle.mapping.specs.Decoded.{mappingOf};
 ghost use Rattle.instance.specs.Decoded.{RoomFor, hasFewColumns};
-ghost use Rattle.pi.specs.Components.{AllComponents};
-ghost use Rattle.migration.specs.Answers.{lentOf, outcomeOf};
+ghost use Rattle.steps.specs.Answers.{lentOf, outcomeOf};
 ghost use Rattle.migration.specs.Joins.{testedJoined, joinedOf, ListedRun, Joins};
-ghost use Rattle.migration.specs.Migrated.{Migrates};
-ghost use Rattle.migration.specs.Opened.{openedOf, IsOpened, Ready};
-ghost use Rattle.migration.specs.Runs.{runInput};
+ghost use Rattle.steps.specs.Migrated.{Migrates};
+ghost use Rattle.steps.specs.Opened.{openedOf, IsOpened};
+ghost use Rattle.steps.specs.Runs.{runInput};
 
 // The run and the components of Pi's tables, with how many families each table has, where the refusal is none; else the refusal alone counts.
 pub struct Joined {
@@ -37,22 +33,6 @@ pub struct Joined {
     pub run: Instance,
     pub components: Components,
     pub counts: [u32; Schema::NODES],
-}
-
-// 13 where the attribute mapping is not a bijection, 14 where a table has too many components, else 0.
-fn unjoinable(opened: Opened, k: Components) -> u8
-    requires { ⌜ Ready opened × AllComponents (opened .source) (opened .target) (opened .mapping) (opened .target .graph .nodes) k ⌝ }
-    ensures { λ r. ⌜ r ≡ cond (isBijective (schemaOf (opened .target)) (mappingOf (opened .source) (opened .mapping))) (cond (hasFewComponents (categoryOf (opened .source)) (categoryOf (opened .target)) (mappingOf (opened .source) (opened .mapping))) 0 14) 13 ⌝ }
-{
-    let target = opened.target;
-    if is_bijective(opened.source, target, opened.mapping) {
-        let count = k.count;
-        if has_few_components(&count, target.graph.nodes) {
-            return 0;
-        }
-        return Refusal::WIDE;
-    }
-    Refusal::UNPAIRED
 }
 
 // No families, for a refusal.
@@ -69,16 +49,6 @@ fn unjoined(refusal: Refusal, run: Instance) -> Joined
         },
         counts: [0u32; Schema::NODES],
     }
-}
-
-// 15 where the families do not fit, else 0.
-fn unlisted(listing: Listing) -> u8
-    ensures { λ r. ⌜ r ≡ cond (listing .fits) 0 15 ⌝ }
-{
-    if listing.fits {
-        return 0;
-    }
-    Refusal::OVERFULL
 }
 
 // The families of a run, with the run in working arrays.

@@ -1,23 +1,25 @@
 // Delta and Sigma, of lent sheets into a lent tray.
-use crate::Refusal;
-use crate::Written;
-use crate::open::Opened;
-use crate::open::have_few_columns;
-use crate::open::open;
-use crate::open::uneven;
-use crate::results::Migrated;
-use crate::results::overfull;
-use crate::results::write_migrated;
 use instance::Instance;
 use instance::judge_instance;
+use steps::Refusal;
+use steps::Written;
+use steps::open::Opened;
+use steps::open::have_few_columns;
+use steps::open::open;
+use steps::open::uneven;
+use steps::pushing::push_run;
+use steps::results::Migrated;
+use steps::results::overfull;
+use steps::results::write_migrated;
 ghost use mathlib.Core.Path.{_≡_};
 ghost use mathlib.Core.Bool.{true};
 ghost use Rattle.meaning.specs.Calls.{deltaTables, sigmaTables, sheetOf, inTray};
 ghost use Rattle.instance.specs.Decoded.{RoomFor};
-ghost use Rattle.migration.specs.Answers.{lentOf};
-ghost use Rattle.migration.specs.Migrated.{pulledBook, Migrates};
-ghost use Rattle.migration.specs.Opened.{openedOf, haveFewColumns, IsOpened};
-ghost use Rattle.migration.specs.Runs.{runInput, evenlyPushed, runInputOf, pushedRun, PushableRun};
+ghost use Rattle.steps.specs.Answers.{lentOf};
+ghost use Rattle.migration.specs.Books.{pulledBook};
+ghost use Rattle.steps.specs.Migrated.{Migrates};
+ghost use Rattle.steps.specs.Opened.{openedOf, haveFewColumns, IsOpened};
+ghost use Rattle.steps.specs.Runs.{runInput, evenlyPushed};
 
 // Delta's tables of a book, in working arrays.
 fn delta_tables(
@@ -115,42 +117,6 @@ pub fn delta(s: &[u8], t: &[u8], f: &[u8], j: &[u8], tray: &mut [u8]) -> Written
         return delta_of_few(opened, j, &mut *tray);
     }
     delta_of_any(opened, j, &mut *tray)
-}
-
-// Sigma's tables of a run along an even mapping.
-fn push_run(
-    opened: Opened,
-    run: Instance,
-    run_links: &[u32],
-    run_values: &[u32],
-    links: &mut [u32],
-    values: &mut [u32],
-) -> Migrated
-    requires { ⌜ PushableRun opened run (now «run_links») (now «run_values») × RoomFor (opened .source) (now «run_links») (now «run_values») × RoomFor (opened .target) (now links) (now values) ⌝ }
-    ensures { λ r. ⌜ Migrates r (now (links .exit)) (now (values .exit)) (pushedRun (runInputOf opened run (now («run_links» .entry)) (now («run_values» .entry)))) ⌝ }
-{
-    let target = opened.target;
-    let pushed = sigma::sigma(
-        opened.source,
-        target,
-        opened.source_paths,
-        opened.target_paths,
-        opened.mapping,
-        run,
-        run_links,
-        run_values,
-        &mut *links,
-        &mut *values,
-    );
-    let size = Refusal {
-        number: overfull(target, pushed),
-        place: 0,
-    };
-    Migrated {
-        refusal: size,
-        schema: target,
-        tables: pushed,
-    }
 }
 
 // Sigma's tables of a run, in working arrays.

@@ -1,41 +1,22 @@
 // The push program's work: from the bytes that it reads to the text that it prints.
 use crate::migrate::sigma_tables;
-use crate::open::Opened;
-use crate::open::have_few_columns;
-use crate::open::open;
-use crate::results::Migrated;
 use instance::Instance;
+use steps::open::Opened;
+use steps::open::have_few_columns;
+use steps::open::open;
+use steps::printing::print;
 use text::Text;
-use text::framing::bytes_of;
-use text::framing::sheets_of;
-use text::write_refusal;
-use text::write_tables;
+use text::framing::nth_sheet;
 ghost use mathlib.Core.Path.{_≡_};
 ghost use mathlib.Core.Bool.{true};
 ghost use Prim.Native.Nat.{_≤_};
 ghost use lib.ListN.{length};
 ghost use Rattle.meaning.specs.Program as program;
 ghost use Rattle.instance.specs.Decoded.{RoomFor};
-ghost use Rattle.text.specs.Written.{maxTextBytes, Printable, Written};
-ghost use Rattle.migration.specs.Answers.{outcomeOf};
-ghost use Rattle.migration.specs.Migrated.{migratedOf};
-ghost use Rattle.migration.specs.Opened.{openedOf, haveFewColumns, FromSheets};
-ghost use Rattle.migration.specs.Printed.{printedInto};
-ghost use Rattle.migration.specs.Runs.{runInput, evenlyPushed};
-
-// Writes the text of a migrated instance, or of the refusal.
-fn print(m: Migrated, links: &[u32], values: &[u32], out: &mut [u8]) -> Text
-    requires { ⌜ (m .refusal .number ≡ 0 → Printable (m .schema) (m .tables) (now links) (now values)) × (maxTextBytes ≤ length (now out)) ⌝ }
-    ensures { λ r. ⌜ Written (program.shown (outcomeOf (m .refusal) (migratedOf m (now (links .entry)) (now (values .entry))))) (now (out .entry)) r (now (out .exit)) ⌝ }
-{
-    let refusal = m.refusal;
-    if refusal.number == 0 {
-        let schema = m.schema;
-        let tables = m.tables;
-        return write_tables(&mut *out, schema, tables, links, values);
-    }
-    write_refusal(&mut *out, refusal.number, refusal.place)
-}
+ghost use Rattle.text.specs.Written.{maxTextBytes};
+ghost use Rattle.steps.specs.Opened.{openedOf, haveFewColumns, FromSheets};
+ghost use Rattle.steps.specs.Printed.{printedInto};
+ghost use Rattle.steps.specs.Runs.{runInput, evenlyPushed};
 
 // Prints Sigma of a run, in working arrays of any length that does: the length of the text.
 fn print_sigma(
@@ -110,13 +91,12 @@ pub fn push(input: &[u8], out: &mut [u8]) -> usize
     if out.len() < Text::BYTES {
         return 0;
     }
-    let sheets = sheets_of(input);
     let opened = open(
-        bytes_of(input, sheets.s),
-        bytes_of(input, sheets.t),
-        bytes_of(input, sheets.mapping),
+        nth_sheet(input, 0),
+        nth_sheet(input, 1),
+        nth_sheet(input, 2),
     );
-    let run = bytes_of(input, sheets.run);
+    let run = nth_sheet(input, 3);
     if have_few_columns(opened) {
         return print_few(opened, run, &mut *out);
     }

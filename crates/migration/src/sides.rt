@@ -1,11 +1,11 @@
 // The sheets of a mapping, a run and a book, which checkers and turnings open first.
-use crate::Refusal;
-use crate::open::Opened;
-use crate::open::uneven;
 use instance::Instance;
 use instance::judge_instance;
+use steps::Refusal;
+use steps::open::Opened;
+use steps::open::uneven;
 ghost use Rattle.instance.specs.Decoded.{RoomFor};
-ghost use Rattle.migration.specs.Opened.{openedOf, IsOpened};
+ghost use Rattle.steps.specs.Opened.{openedOf, IsOpened};
 ghost use Rattle.migration.specs.Sides.{inputs, SidesSay};
 
 // What the five sheets say, where the refusal is none. Links and values of the run and the book stand in working arrays.

@@ -1,6 +1,4 @@
 // The turnings of matchings, of lent sheets into a lent tray.
-use crate::Refusal;
-use crate::Written;
 use crate::matchings::Side;
 use crate::matchings::match_side;
 use crate::sides::Sides;
@@ -11,6 +9,8 @@ use instance::decode::total;
 use matching::turning::to_pushed;
 use matching::turning::to_raw;
 use sigma::sigma_counts;
+use steps::Refusal;
+use steps::Written;
 ghost use mathlib.Core.Path.{_≡_};
 ghost use Prim.Native.Nat.{_≤_};
 ghost use lib.ListN.{length};
@@ -18,7 +18,8 @@ ghost use Rattle.meaning.specs.Formats.{matchingSheet};
 ghost use Rattle.meaning.specs.Calls.{written, inTray};
 ghost use Rattle.schema.specs.Decoded.{frontOf};
 ghost use Rattle.matching.specs.Compared.{partnersOf};
-ghost use Rattle.migration.specs.Answers.{outcomeOf, lentOf, TurnedToRaw, TurnedToPushed};
+ghost use Rattle.steps.specs.Answers.{outcomeOf, lentOf};
+ghost use Rattle.migration.specs.Answers.{TurnedToRaw, TurnedToPushed};
 ghost use Rattle.migration.specs.Turnable.{turnableOf, turnedList, ReadyToTurn};
 
 // Turns a list of partners of one side into one of the other side.

@@ -4,6 +4,7 @@ use borrow.Author.Tests.{leb-true, le-leb}
 use Rattle.theory.proofs.Mapping.{image-chain}
 use Rattle.theory.proofs.Sigma.{sigma-one}
 use Rattle.theory.proofs.Pi.{pi-one}
+use Rattle.theory.proofs.Query.{query-one}
 use Rattle.meaning.specs.Schema.{allPaths}
 use Rattle.meaning.specs.Formats.{maxPaths, kinds}
 use Rattle.meaning.proofs.Facts.{schema-facts, mapping-sized, instance-shaped}
@@ -18,7 +19,7 @@ use Rattle.agreement.proofs.Ranges.{zero-in}
 use Rattle.agreement.proofs.Instances.{links-iff, values-iff, equations-iff}
 use Rattle.agreement.proofs.Tests.{refused-iff, accepted-iff, refused-in}
 use Rattle.agreement.proofs.Refusals.{crowd-iff, off-scale-iff}
-use Rattle.agreement.proofs.Outcomes.{checkSchema-decided, checkMapping-decided, checkInstance-decided, pathQuestion-answer, pathChain-answer, delta-answer, sigma-answer, pi-answer, checkPushed-decided, checkRaw-decided, pushedToRaw-answer, rawToPushed-answer, refused-tray, accepted-tray}
+use Rattle.agreement.proofs.Outcomes.{checkSchema-decided, checkMapping-decided, checkInstance-decided, pathQuestion-answer, pathChain-answer, delta-answer, sigma-answer, pi-answer, query-answer, checkPushed-decided, checkRaw-decided, pushedToRaw-answer, rawToPushed-answer, refused-tray, accepted-tray}
 use Rattle.agreement.proofs.Valid.{mapping-valid, instance-accepted-iff}
 use Rattle.agreement.proofs.Evenness.{even-iff}
 use Rattle.agreement.proofs.Sigma.{sigma-never-overfull}
@@ -27,11 +28,13 @@ use Rattle.agreement.proofs.Pi.{pi-tables, pi-single}
 use Rattle.agreement.proofs.AcceptedSheets.{path-answer, path-answers, chain-answers, delta-answers, sigma-answers, pi-answers}
 use Rattle.agreement.proofs.Matchings.{judgeMatching-iff}
 use Rattle.agreement.proofs.Agrees.{schema-agrees, delta-agrees, sigma-agrees, pi-agrees}
+use Rattle.agreement.proofs.Query.{query-agrees, query-sigma-fits, query-answers}
+use Rattle.agreement.proofs.Chained.{query-chained}
 use Rattle.agreement.proofs.Demand3.{demand3, provided-iff, unprovided-refused, case3-provided}
-use Rattle.agreement.proofs.Framing.{push-frames}
+use Rattle.agreement.proofs.Framing.{push-frames, dig-frames}
 use Rattle.migration.proofs.Demand3.{calls-demand3, calls-refuse, meanings-meet}
 use Rattle.migration.proofs.Encoding.{exports-say, results-within}
-use Rattle.promises.specs.Promises.{Demand-1, Demand-2, Demand-3, C-11, C-12, C-14, Program, Header}
+use Rattle.promises.specs.Promises.{Demand-1, Demand-2, Demand-3, C-11, C-12, C-14, C-15, Program, Header}
 
 pub demand-1 : Demand-1
 demand-1 = record {
@@ -118,8 +121,18 @@ c-14 = record {
   equality = equal-paths-iff;
 }
 
+pub c-15 : C-15
+c-15 = record {
+  query = λ s1 s2 s3 s4 f g h i tray. query-answer tray s1 s2 s3 s4 f g h i;
+  query-agrees = query-agrees;
+  query-one = query-one;
+  query-answers = query-answers;
+  sigma-fits = query-sigma-fits;
+  chained = query-chained;
+}
+
 pub program : Program
-program = record { push-frames = push-frames }
+program = record { push-frames = push-frames; dig-frames = dig-frames }
 
 pub header : Header
 header = record { exports-say = exports-say; results-within = results-within }

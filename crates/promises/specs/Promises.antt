@@ -1,9 +1,9 @@
--- The promises of the three demands, of the requests of document 02, of the program and of the C header, by demand and sentence; proofs/Promises.antt
+-- The promises of the three demands, of the requests of document 02, of the programs and of the C header, by demand and sentence; proofs/Promises.antt
 -- proves each under its name.
--- A call is said by its meaning, a function of lists of numbers (`meaning` specs/Calls.antt). That the code answers as the meaning does is each public
--- call's contract, one equation with no `requires` (`migration` src/checks.rt, first.rt, explain.rt, migrate.rt, joins.rt, turnings.rt, printing.rt and exports.rt). The other terms
--- stand in the specs/ of `theory` (source document 000), `meaning` (documents 01 and 02), `agreement` and `migration`.
--- By definition alone, in `meaning` specs/: the fields of sheets, refusals 1, 2 and 3, the text of push. The runs to check against: `meaning` proofs/Cases.antt.
+-- A call is said by its meaning, a function of lists of numbers (`meaning` specs/Calls.antt, Query.antt). That the code answers as the meaning does is each public
+-- call's contract, one equation with no `requires` (`migration` src/checks.rt, first.rt, explain.rt, migrate.rt, joins.rt, turnings.rt, printing.rt and exports.rt;
+-- `query` src/answer.rt, printing.rt and exports.rt). The other terms stand in the specs/ of `theory` (source document 000), `meaning` (documents 01 and 02), `agreement` and `migration`.
+-- By definition alone, in `meaning` specs/: the fields of sheets, refusals 1, 2 and 3, the text of push and dig. The runs to check against: `meaning` proofs/Cases.antt.
 use Prim.Native.Nat.{ℕ, _<_, _≤_}
 use mathlib.Core.Path.{_≡_}
 use mathlib.Core.Bool.{true, false}
@@ -18,28 +18,32 @@ use Rattle.theory.specs.Mapping as theoryMapping
 use Rattle.theory.specs.Mapping.{IsMapping, Even, Bijective}
 use Rattle.theory.specs.Sigma.{IsSigma}
 use Rattle.theory.specs.Pi.{IsComponent, IsPi}
+use Rattle.theory.specs.Query.{IsQuery}
 use Rattle.theory.specs.Matching.{IsMatching}
 use Rattle.meaning.specs.Lists.{sumOf}
 use Rattle.meaning.specs.Schema.{Path, path, Schema, isPath, allPaths, hasLoop, height}
 use Rattle.meaning.specs.PathChain.{Step}
 use Rattle.meaning.specs.Category.{Category, equal, listedCategory}
 use Rattle.meaning.specs.Sheet.{faulty, sound, onSheet}
-use Rattle.meaning.specs.Formats.{Mapping, Instance, readMapping, readInstance, maxPaths, maxRows, kinds, instanceSheet, matchingSheet}
+use Rattle.meaning.specs.Formats.{Mapping, Instance, readMapping, readInstance, maxPaths, maxRows, maxInstanceBytes, kinds, instanceSheet, matchingSheet}
 use Rattle.meaning.specs.Views.{Shaped, schemaOf, nodeImage, edgeImage, mappingOf, count, instanceOf}
 use Rattle.meaning.specs.Judge.{isWellFormed, hasFewPaths, imagesFit, keepsEquations, linksInRange, valuesInRange, obeysEquations, judgePath, judgeSchema, judgeMapping, judgeInstance}
+use Rattle.meaning.specs.Delta.{delta}
 use Rattle.meaning.specs.Evenness.{even}
 use Rattle.meaning.specs.Sigma.{sigma}
 use Rattle.meaning.specs.Pi.{isBijective, pi}
 use Rattle.meaning.specs.Matching.{judgeMatching}
-use Rattle.meaning.specs.Calls.{Outcome, refused, accepted, ensureFits, checkSchema, checkMapping, checkInstance, pathQuestion, pathChain, Migrated, deltaTables, sigmaTables, piTables, sheetOf, sides, rawSheet, pushedSheet, checkPushed, checkRaw, pushedToRaw, rawToPushed, inTray}
-use Rattle.meaning.specs.Program.{frames, push}
+use Rattle.meaning.specs.Calls.{Outcome, refused, accepted, _>>=_, ensureFits, checkSchema, checkMapping, checkInstance, pathQuestion, pathChain, Migrated, deltaTables, sigmaTables, piTables, sheetOf, sides, rawSheet, pushedSheet, checkPushed, checkRaw, pushedToRaw, rawToPushed, inTray}
+use Rattle.meaning.specs.Query.{Query, migrateQuery, queryTables}
+use Rattle.meaning.specs.Program.{frames, push, dig}
 use Rattle.agreement.specs.Paths.{WellFormed, SameStarts, Loop, IsHeight, EqualPaths, ListsPaths, Crowded}
 use Rattle.agreement.specs.Categories.{IsCategory}
 use Rattle.agreement.specs.PathChains.{StepsAgree, ChainsAgree, IsFirstChain, ChainAnswers}
 use Rattle.agreement.specs.Tests.{Refusal, Tests, FailsAt, Pass, Decides}
-use Rattle.agreement.specs.CallTests.{checkSchemaTests, checkMappingTests, checkInstanceTests, pathQuestionTests, pathChainTests, deltaTests, sigmaTests, piTests, pushedTests, rawTests, trayTests, sheetTests, Result}
+use Rattle.agreement.specs.CallTests.{checkSchemaTests, checkMappingTests, checkInstanceTests, pathQuestionTests, pathChainTests, deltaTests, sigmaTests, piTests, queryTests, pushedTests, rawTests, trayTests, sheetTests, Result}
 use Rattle.agreement.specs.Valid.{ValidMapping, ValidInstance, InRange, ImagesFit, KeepsEquations, LinksIn, ValuesIn, OffScale, ObeysEquations}
 use Rattle.agreement.specs.Agrees.{SchemaAgrees, PathAnswer, PathAnswers, Inputs, DeltaAgrees, DeltaAnswers, SigmaAgrees, SigmaAnswers, PiAgrees, PiAnswers}
+use Rattle.agreement.specs.Query.{QueryInputs, QueryAgrees, QueryAnswers, chained, SameResult}
 use Rattle.agreement.specs.Demand3.{Accepts, meaningAnswers, Provided, Clauses, AllRefuse}
 use Rattle.migration.specs.Demand3.{Calls, MeetsContracts, answers, meaningCalls}
 use Rattle.migration.specs.Encoding.{ExportsSay, ResultsWithin}
@@ -187,12 +191,43 @@ pub record C-14 : Type 0 where
   pub equality : {C : Category} → IsCategory C → (p q : Path) → IsPath (schemaOf (C .schema)) (p .start) (p .edges) → IsPath (schemaOf (C .schema)) (q .start) (q .edges)
       → (equal C p q ≡ true) ↔ EqualPaths (C .schema) p q
 
--- ---- The push program
+-- ---- Document 02, C-15: the dig sheet
+
+pub record C-15 : Type 1 where
+  -- "Sheets are judged schemas first, then F, G, H, then the run; then 13 and 14 for G, 12 for H, and 15 after each migration in turn": "places 1 to 4 the
+  -- schemas, 5 F, 6 G, 7 H, 8 the run; then at place 0: 13, 14 (G), 12 (H), 15 of Delta's result, 15 of Pi's (15 of Sigma's never arises); the call last
+  -- 16"; what a tray is left as is Demand-1's
+  pub query : (s1 s2 s3 s4 f g h i tray : List ℕ)
+      → Decides (sheetTests tray (queryTests s1 s2 s3 s4 f g h i)) (inTray tray (sheetOf (queryTables s1 s2 s3 s4 f g h i)) .answer)
+  -- it "gives Sigma along H of Pi along G of Delta along F, as in definition 2 of source document 000"; "each intermediate table is an accepted instance
+  -- of its schema"
+  pub query-agrees : (s1 s2 s3 s4 f g h i : List ℕ) {M : Migrated} → queryTables s1 s2 s3 s4 f g h i ≡ accepted M → QueryAgrees s1 s2 s3 s4 f g h i M
+  -- no other tables are this query's: "F goes from the second schema to the first, G from the second to the third, H from the third to the fourth"
+  pub query-one : {F G H : theoryMapping.Mapping} {I D P Q D′ P′ R : theory.Instance ℕ} → IsMapping G → IsMapping H → G .S ≡ F .S → H .S ≡ G .T → Bijective G → Even H
+      → IsQuery F G H I D P Q → IsQuery F G H I D′ P′ R → Alike (H .T) Q R
+  -- "13 and 14 for G, 12 for H, and 15 after each migration in turn": which of them, or a result, on accepted sheets, by what the theory has
+  pub query-answers : (s1 s2 s3 s4 f g h i : List ℕ) {q : Query} {I : Instance} → QueryInputs s1 s2 s3 s4 f g h i q I
+      → QueryAnswers s1 s2 s3 s4 f g h i q (instanceOf I)
+  -- "15 of Sigma's never arises": with its test left out the migrations give the same
+  pub sigma-fits : {s1 s2 s3 s4 f g h i : List ℕ} {q : Query} {I : Instance} → QueryInputs s1 s2 s3 s4 f g h i q I
+      → isBijective (q .S3) (q .G) ≡ true → even (listedCategory (q .S3)) (listedCategory (q .S4)) (q .H) ≡ true
+      → migrateQuery q I ≡ (do
+        D ← ensureFits (delta (q .S2) (q .F) I)
+        P ← ensureFits (pi (listedCategory (q .S2)) (listedCategory (q .S3)) (q .G) D)
+        accepted (record { schema = q .S4; tables = sigma (listedCategory (q .S3)) (listedCategory (q .S4)) (q .H) P }))
+  -- "lent the same tray as the last, the call accepts exactly where the three public calls do, chained through results cut to their length (the first two
+  -- trays of the header's instance bytes), and writes the same bytes (which refusal is given may differ): a caller may cut the chain anywhere"
+  pub chained : (s1 s2 s3 s4 f g h i first second tray : List ℕ) → maxInstanceBytes ≤ length first → maxInstanceBytes ≤ length second
+      → SameResult (inTray tray (sheetOf (queryTables s1 s2 s3 s4 f g h i))) (chained s1 s2 s3 s4 f g h i first second tray)
+
+-- ---- The programs push and dig
 
 pub record Program : Type 0 where
   -- "bytes after the fourth sheet are not read": what is printed depends on the first four sheets alone; that no other byte is taken from the input is
-  -- the contract of `input` `read_sheets`, from the bytes read to the text printed that of `migration` `push`
+  -- the contract of `input` `read_sheets`, from the bytes read to the text printed that of `migration` `push`, and of `query` `dig`
   pub push-frames : (input : List ℕ) → push (frames 4 input) ≡ push input
+  -- dig "reads its eight sheets as the push program does": what it prints depends on the first eight alone
+  pub dig-frames : (input : List ℕ) → dig (frames 8 input) ≡ dig input
 
 -- ---- The C header
 

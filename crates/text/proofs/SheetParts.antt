@@ -1,16 +1,14 @@
 -- Laws of the framing: the byte length at a position, and the sheet after it.
-use Prim.Native.Nat.{ℕ, _+_, _-_, _*_, _≤_, _<_}
+use Prim.Native.Nat.{ℕ, zero, suc, _+_, _-_, _*_, _≤_, _<_}
 use mathlib.Core.Path.{_≡_, refl, ap, _∙_}
 use mathlib.Core.List.{List, [], _∷_}
 use native.Mathlib.Omega.{arith}
 use native.Mathlib.Nat.{add-zero}
 use lib.ListN.{length, getD, drop, length-drop, drop-of-length-le}
 use lib.Seq.{drop-drop, getD-drop, take-all, take-nil, drop-nil}
-use Rattle.meaning.specs.Program.{announced, firstSheet, laterSheets, shown, push}
-use Rattle.meaning.specs.Calls.{sigmaTables}
+use Rattle.meaning.specs.Program.{announced, firstSheet, laterSheets, afterSheets, sheet}
 use Rattle.text.specs.declared.framing.Part.{Part}
-use Rattle.text.specs.declared.framing.Sheets.{Sheets}
-use Rattle.text.specs.Framed.{partOf, SheetFound, SheetsFound}
+use Rattle.text.specs.Framed.{SheetFound, NthFound}
 
 -- ---- the byte length at the front
 
@@ -28,8 +26,8 @@ length-some input at h =
 
 module _ (input : List ℕ) (at : ℕ) where
   -- what follows the byte length
-  behind : drop 2 (drop at input) ≡ drop (at + 2) input
-  behind = drop-drop 2 at input
+  unlengthed : drop 2 (drop at input) ≡ drop (at + 2) input
+  unlengthed = drop-drop 2 at input
 
   -- nothing stands past the end
   nothing : (k : ℕ) → length input ≤ k → drop k input ≡ []
@@ -38,7 +36,7 @@ module _ (input : List ℕ) (at : ℕ) where
   pub sheet-none : at ≤ length input → length input - at < 2 → SheetFound input at (record { start = length input; end = length input })
   sheet-none long h =
       let none = nothing (length input) (omega arith) in
-      let rest : drop 2 (drop at input) ≡ [] = behind ∙ nothing (at + 2) (omega arith) in
+      let rest : drop 2 (drop at input) ≡ [] = unlengthed ∙ nothing (at + 2) (omega arith) in
       record {
         lies = record { ordered = omega arith; inside = omega arith };
         onward = omega arith;
@@ -53,8 +51,8 @@ module _ (input : List ℕ) (at : ℕ) where
       record {
         lies = record { ordered = omega arith; inside = omega arith };
         onward = omega arith;
-        sheet = rw (behind, take-all (length input - (at + 2)) (drop (at + 2) input) (omega arith), take-all (announced (drop at input)) (drop (at + 2) input) (omega arith));
-        later = rw (behind, drop-drop (announced (drop at input)) (at + 2) input, nothing (length input) (omega arith), nothing (at + 2 + announced (drop at input)) (omega arith));
+        sheet = rw (unlengthed, take-all (length input - (at + 2)) (drop (at + 2) input) (omega arith), take-all (announced (drop at input)) (drop (at + 2) input) (omega arith));
+        later = rw (unlengthed, drop-drop (announced (drop at input)) (at + 2) input, nothing (length input) (omega arith), nothing (at + 2 + announced (drop at input)) (omega arith));
       }
 
   pub sheet-whole : {size : ℕ} → size ≡ announced (drop at input) → at + 2 ≤ length input → size ≤ length input - (at + 2) → SheetFound input at (record { start = at + 2; end = at + 2 + size })
@@ -63,31 +61,29 @@ module _ (input : List ℕ) (at : ℕ) where
       record {
         lies = record { ordered = omega arith; inside = omega arith };
         onward = omega arith;
-        sheet = rw (behind, size-is, e);
-        later = rw (behind, drop-drop (announced (drop at input)) (at + 2) input, e);
+        sheet = rw (unlengthed, size-is, e);
+        later = rw (unlengthed, drop-drop (announced (drop at input)) (at + 2) input, e);
       }
 
--- ---- four sheets, each where the one before ends
+-- ---- sheets, each where the one before ends
 
-module _ (input : List ℕ) {s t f i : Part} (S : SheetFound input 0 s) (T : SheetFound input (s .end) t) (F : SheetFound input (t .end) f) (I : SheetFound input (f .end) i) where
-  later-two : drop (t .end) input ≡ laterSheets (laterSheets input)
-  later-two = T .later ∙ ap laterSheets (S .later)
+after-later : (n : ℕ) (input : List ℕ) → laterSheets (afterSheets n input) ≡ afterSheets (suc n) input
+after-later zero input = refl
+after-later (suc n) input = after-later n (laterSheets input)
 
-  later-three : drop (f .end) input ≡ laterSheets (laterSheets (laterSheets input))
-  later-three = F .later ∙ ap laterSheets later-two
+-- a position is where the first n sheets end
+pub record EndsAt (input : List ℕ) (n at : ℕ) : Type 0 where
+  pub within : at ≤ length input
+  pub rest : drop at input ≡ afterSheets n input
 
-  pub sheets-found : SheetsFound input (record { s = s; t = t; mapping = f; run = i })
-  sheets-found = record {
-    s-lies = S .lies;
-    t-lies = T .lies;
-    mapping-lies = F .lies;
-    run-lies = I .lies;
-    s-is = S .sheet;
-    t-is = T .sheet ∙ ap firstSheet (S .later);
-    mapping-is = F .sheet ∙ ap firstSheet later-two;
-    run-is = I .sheet ∙ ap firstSheet later-three;
-  }
+pub begins : (input : List ℕ) → EndsAt input 0 0
+begins input = record { within = omega arith; rest = refl }
 
--- what `push` prints is the text of these four sheets
-pub sheets-pushed : {input : List ℕ} {r : Sheets} → SheetsFound input r → push input ≡ shown (sigmaTables (partOf input (r .s)) (partOf input (r .t)) (partOf input (r .mapping)) (partOf input (r .run)))
-sheets-pushed F = rw (F .s-is, F .t-is, F .mapping-is, F .run-is)
+module _ {input : List ℕ} {n at : ℕ} {p : Part} (E : EndsAt input n at) (F : SheetFound input at p) where
+  pub ends-next : EndsAt input (n + 1) (p .end)
+  ends-next =
+      let next : suc n ≡ n + 1 = omega arith in
+      record { within = F .lies .inside; rest = F .later ∙ ap laterSheets (E .rest) ∙ after-later n input ∙ ap (λ (k : ℕ). afterSheets k input) next }
+
+  pub nth-found : {m : ℕ} → n ≡ m → NthFound input m p
+  nth-found e = record { lies = F .lies; is = F .sheet ∙ ap firstSheet (E .rest) ∙ ap (λ (k : ℕ). sheet k input) e }

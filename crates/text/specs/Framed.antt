@@ -3,9 +3,8 @@ use Prim.Native.Nat.{ℕ, _+_, _-_, _≤_}
 use mathlib.Core.Path.{_≡_}
 use mathlib.Core.List.{List}
 use lib.ListN.{length, take, drop}
-use Rattle.meaning.specs.Program.{announced, firstSheet, laterSheets}
+use Rattle.meaning.specs.Program.{announced, firstSheet, laterSheets, sheet}
 use Rattle.text.specs.declared.framing.Part.{Part}
-use Rattle.text.specs.declared.framing.Sheets.{Sheets}
 
 -- the largest byte length
 abbrev pub maxSheetBytes : ℕ
@@ -36,13 +35,7 @@ pub record SheetFound (input : List ℕ) (at : ℕ) (p : Part) : Type 0 where
   pub sheet : partOf input p ≡ firstSheet (drop at input)
   pub later : drop (p .end) input ≡ laterSheets (drop at input)
 
--- the parts are the first four sheets of the input: S, T, mapping and run
-pub record SheetsFound (input : List ℕ) (r : Sheets) : Type 0 where
-  pub s-lies : LiesIn input (r .s)
-  pub t-lies : LiesIn input (r .t)
-  pub mapping-lies : LiesIn input (r .mapping)
-  pub run-lies : LiesIn input (r .run)
-  pub s-is : partOf input (r .s) ≡ firstSheet input
-  pub t-is : partOf input (r .t) ≡ firstSheet (laterSheets input)
-  pub mapping-is : partOf input (r .mapping) ≡ firstSheet (laterSheets (laterSheets input))
-  pub run-is : partOf input (r .run) ≡ firstSheet (laterSheets (laterSheets (laterSheets input)))
+-- p is the sheet after the first n
+pub record NthFound (input : List ℕ) (n : ℕ) (p : Part) : Type 0 where
+  pub lies : LiesIn input p
+  pub is : partOf input p ≡ sheet n input

@@ -1,9 +1,10 @@
-// Where the four sheets lie in the push program's input, each after its 16-bit byte length, most significant byte first.
+// Where sheets lie in a program's input, each after its 16-bit byte length, most significant byte first.
 use schema::numbers::wide;
 ghost use mathlib.Core.Path.{_≡_};
 ghost use Prim.Native.Nat.{_+_, _≤_};
 ghost use lib.ListN.{length};
-ghost use Rattle.text.specs.Framed.{LengthFound, LiesIn, partOf, SheetFound, SheetsFound};
+ghost use Rattle.meaning.specs.Program as program;
+ghost use Rattle.text.specs.Framed.{LengthFound, LiesIn, partOf, SheetFound, NthFound};
 
 // The bytes from start up to, not including, end.
 pub struct Part {
@@ -24,20 +25,6 @@ pub fn bytes_of<'a>(input: &'a [u8], p: Part) -> &'a [u8]
     let start = p.start;
     let end = p.end;
     &input[start..end]
-}
-
-// The sheets S, T, mapping and run.
-pub struct Sheets {
-    pub s: Part,
-    pub t: Part,
-    pub mapping: Part,
-    pub run: Part,
-}
-
-impl Sheets {
-    pub const COUNT: usize = 4;
-    // The sheets, each after its byte length.
-    pub const BYTES: usize = Sheets::COUNT * Part::FRAME;
 }
 
 // The byte length at a position.
@@ -74,18 +61,22 @@ pub fn sheet_at(input: &[u8], at: usize) -> Part
     }
 }
 
-// The four sheets of an input.
-pub fn sheets_of(input: &[u8]) -> Sheets
-    ensures { λ r. ⌜ SheetsFound (now (input .entry)) r ⌝ }
+// Where the sheet after the first n lies.
+fn nth_part(input: &[u8], n: usize) -> Part
+    ensures { λ r. ⌜ NthFound (now (input .entry)) n r ⌝ }
 {
-    let s = sheet_at(input, 0);
-    let t = sheet_at(input, s.end);
-    let mapping = sheet_at(input, t.end);
-    let run = sheet_at(input, mapping.end);
-    Sheets {
-        s: s,
-        t: t,
-        mapping: mapping,
-        run: run,
+    let mut at = 0;
+    let mut i = 0;
+    while i < n {
+        at = sheet_at(input, at).end;
+        i += 1;
     }
+    sheet_at(input, at)
+}
+
+// The sheet after the first n.
+pub fn nth_sheet<'a>(input: &'a [u8], n: usize) -> &'a [u8]
+    ensures { λ r. ⌜ now r ≡ program.sheet n (now (input .entry)) ⌝ }
+{
+    bytes_of(input, nth_part(input, n))
 }

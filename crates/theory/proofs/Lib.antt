@@ -7,5 +7,6 @@ pub mod Mapping
 pub mod Sigma
 pub mod Family
 pub mod Pi
+pub mod Query
 pub mod Matching
 pub mod Transposition

@@ -5,5 +5,6 @@ pub mod Instance
 pub mod Mapping
 pub mod Sigma
 pub mod Pi
+pub mod Query
 pub mod Matching
 pub mod Transposition

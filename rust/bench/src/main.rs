@@ -1,8 +1,9 @@
 //! What the calls cost.
 //!
 //! - `bench` prints for each case the nanoseconds of a call by the library, the
-//!   reference and, for Sigma and the check of instances, the plain version, and
-//!   before them what is kept from call to call; `bench only NAME` prints a case.
+//!   reference and, for Sigma and the check of instances, the plain version, for a
+//!   query Delta, Pi and Sigma in turn, and before them what is kept from call to call;
+//!   `bench only NAME` prints a case.
 //! - `bench names` prints the cases, `bench trials` the puzzles on which the trials
 //!   of Pi's search are counted; `bench once NAME WHO` makes one call, for a counter
 //!   of instructions.
@@ -15,6 +16,7 @@ mod sql;
 mod trials;
 
 use inputs::inputs;
+use migration::{delta_into, pi_into, sigma_into, Refusal};
 use std::hint::black_box;
 use std::path::Path;
 use std::process::ExitCode;
@@ -26,16 +28,42 @@ use vectors::call::{Call, Case};
 #[derive(Clone, Copy, PartialEq)]
 enum Who {
     Library,
+    /// The library's Delta, Pi and Sigma, each lent the result of the one before.
+    InTurn,
     Plain,
     Reference,
 }
 
-const ALL: [(&str, Who); 3] =
-    [("library", Who::Library), ("plain", Who::Plain), ("reference", Who::Reference)];
+const ALL: [(&str, Who); 4] = [
+    ("library", Who::Library),
+    ("in_turn", Who::InTurn),
+    ("plain", Who::Plain),
+    ("reference", Who::Reference),
+];
 
 /// Whether there is such a version of the call.
 fn answers(who: Who, call: Call) -> bool {
-    who != Who::Plain || matches!(call, Call::CheckInstance | Call::Sigma)
+    match who {
+        Who::Library | Who::Reference => true,
+        Who::InTurn => call == Call::Query,
+        Who::Plain => matches!(call, Call::CheckInstance | Call::Sigma),
+    }
+}
+
+/// A tray for a version of a call: in turn, one for each of the three results.
+fn tray(who: Who, case: &Case) -> Vec<u8> {
+    let trays = if who == Who::InTurn { 3 } else { 1 };
+    vec![0; trays * case.tray]
+}
+
+/// The query by the three calls of the library, in a tray for each.
+fn in_turn(sheets: &[Vec<u8>], tray: &mut [u8]) -> Result<usize, Refusal> {
+    let [s1, s2, s3, s4, f, g, h, run] = sheets else { unreachable!("a query") };
+    let (projected, rest) = tray.split_at_mut(tray.len() / 3);
+    let (joined, united) = rest.split_at_mut(rest.len() / 2);
+    let length = delta_into(s2, s1, f, run, projected)?;
+    let length = pi_into(s2, s3, g, &projected[..length], joined)?;
+    sigma_into(s3, s4, h, &joined[..length], united)
 }
 
 /// One call.  Its name is what the counter of instructions looks for.
@@ -43,6 +71,7 @@ fn answers(who: Who, call: Call) -> bool {
 fn measured(who: Who, case: &Case, tray: &mut [u8]) -> bool {
     match (who, case.call, case.sheets.as_slice()) {
         (Who::Library, call, sheets) => differential::call(call, sheets, tray).is_ok(),
+        (Who::InTurn, _, sheets) => in_turn(sheets, tray).is_ok(),
         (Who::Plain, Call::CheckInstance, [s, i]) => plain::check_instance(s, i).is_ok(),
         (Who::Plain, _, [s, t, f, i]) => plain::sigma(s, t, f, i, tray).is_ok(),
         _ => reference_outcome(case).answer.is_ok(),
@@ -61,8 +90,7 @@ struct Timed<'a> {
 
 impl<'a> Timed<'a> {
     fn new(who: Who, case: &'a Case) -> Self {
-        let mut timed =
-            Timed { who, case, tray: vec![0; case.tray], calls: 1, least: f64::INFINITY };
+        let mut timed = Timed { who, case, tray: tray(who, case), calls: 1, least: f64::INFINITY };
         while timed.batch() < Duration::from_millis(1) {
             timed.calls *= 2;
         }
@@ -94,13 +122,16 @@ const ROUNDS: usize = 12;
 /// The state in which a call finds sheets and trays.
 const STATE: &str = "\
 Sheets are those of the call before. The library and the plain version write into
-the tray of the call before; the reference makes a tray of its own at each call.
+the tray of the call before, Delta, Pi and Sigma in turn into three; the reference
+makes a tray of its own at each call.
 The least time of a call over 12 rounds of 40 ms, in batches of at least 1 ms:
 ";
 
 fn table() {
     print!("{STATE}");
-    println!("{:28} {:>8} {:>12} {:>12} {:>12}", "case", "bytes", "library", "plain", "reference");
+    print!("{:28} {:>8}", "case", "bytes");
+    ALL.iter().for_each(|(name, _)| print!(" {name:>12}"));
+    println!();
     inputs().iter().for_each(line);
 }
 
@@ -149,7 +180,7 @@ fn once(name: &str, who: &str) -> Result<(), String> {
     let mut versions = ALL.into_iter().filter(|&(_, version)| answers(version, case.call));
     let version = versions.find(|(name, _)| *name == who);
     let (_, who) = version.ok_or_else(|| format!("{name} is not answered by {who}"))?;
-    let mut tray = vec![0; case.tray];
+    let mut tray = tray(who, &case);
     counted(who, &case, &mut tray);
     Ok(())
 }

@@ -162,6 +162,9 @@ pub fn call(call: Call, sheets: &[Vec<u8>], tray: &mut [u8]) -> Result<usize, Re
         (Call::PathChain, [s, p, q]) => {
             path_chain_into(s, p, q, tray).map(|length| length.unwrap_or(0))
         }
+        (Call::Query, [s1, s2, s3, s4, f, g, h, run]) => {
+            query_into(s1, s2, s3, s4, f, g, h, run, tray)
+        }
         _ => unreachable!("a call lent its sheets"),
     }
 }

@@ -1,9 +1,8 @@
 //! A short run: `cargo run --release -p differential -- 200000` is a long one.
 
 use differential::pipe::{read_in_turn, Feed, LIMIT};
-use differential::program::{compare_pairs, compare_texts, inputs, pairs};
+use differential::program::{Program, PROGRAMS};
 use differential::{cases, compare, library_outcome};
-use reference::push;
 use std::process::Command;
 use std::time::Duration;
 use vectors::answer::{reference_outcome, FILLING};
@@ -38,36 +37,58 @@ fn another_answer_or_another_tray_is_a_difference() {
 /// A program that prints something else is found out.
 #[test]
 fn another_text_is_a_difference() {
-    let mut inputs = inputs(1, 4).skip(3);
-    let other = compare_texts(|| Command::new("cat"), &mut inputs).expect("a program that runs");
-    let other = other.expect_err("cat prints its input");
-    assert_ne!(other.expected.printed, other.found.printed);
-    let none = || Command::new("/no/such/program");
-    assert!(compare_texts(none, [vec![]].into_iter()).is_err());
-    assert!(compare_pairs(none, pairs(1, 1), LIMIT).is_err());
+    for program in PROGRAMS {
+        let inputs = program.inputs(1, 4).skip(3);
+        let other = program.compare_texts(|| Command::new("cat"), inputs);
+        let other = other.expect("a program that runs").expect_err("cat prints its input");
+        assert_ne!(other.expected.printed, other.found.printed);
+        let none = || Command::new("/no/such/program");
+        assert!(program.compare_texts(none, [vec![]].into_iter()).is_err());
+        assert!(program.compare_pairs(none, program.pairs(1, 1), LIMIT).is_err());
+    }
 }
 
 /// A program that waits for the end of the input is found out, and killed.
 #[test]
 fn reading_on_is_a_difference() {
-    let other = compare_pairs(|| Command::new("cat"), pairs(1, 1), Duration::from_millis(300));
-    let other = other.expect("a program that runs").expect_err("cat reads on");
-    assert_eq!(other.found.printed, [None]);
+    for program in PROGRAMS {
+        let (cat, limit) = (|| Command::new("cat"), Duration::from_millis(300));
+        let other = program.compare_pairs(cat, program.pairs(1, 1), limit);
+        let other = other.expect("a program that runs").expect_err("cat reads on");
+        assert_eq!(other.found.printed, [None]);
+    }
+}
+
+/// Inputs give tables and refusals, and nothing else.
+#[test]
+fn inputs_end_in_every_way() {
+    for program in PROGRAMS {
+        let texts: Vec<Vec<u8>> = program.inputs(1, 500).map(|i| (program.text)(&i)).collect();
+        let begin = |word: &str| texts.iter().filter(|t| t.starts_with(word.as_bytes())).count();
+        assert_eq!(begin("tables") + begin("refused"), 500, "{}", program.name);
+        assert!(begin("tables") > 50 && begin("refused") > 50, "{}", program.name);
+    }
 }
 
 /// A program that prints the right text, of as many bytes as it gets, is found out
 /// by what it leaves.
 #[test]
 fn bytes_taken_from_the_next_reader_are_a_difference() {
-    let (inputs, after) = pairs(1, 2).last().expect("a pair with bytes after it");
-    let text = String::from_utf8(push(&inputs[0])).expect("a text");
+    for program in PROGRAMS {
+        take_bytes_after(program);
+    }
+}
+
+fn take_bytes_after(program: Program) {
+    let (inputs, after) = program.pairs(1, 2).last().expect("a pair with bytes after it");
+    let text = String::from_utf8((program.text)(&inputs[0])).expect("a text");
     let greedy = || {
         let mut shell = Command::new("sh");
         shell.args(["-c", "dd bs=64k count=1 status=none >/dev/null; printf %s \"$0\"", &text]);
         shell
     };
     let input = [&inputs[0][..], &after].concat();
-    let other = compare_texts(greedy, [input].into_iter()).expect("a program that runs");
+    let other = program.compare_texts(greedy, [input].into_iter()).expect("a program that runs");
     let other = other.expect_err("dd takes what there is");
     assert_eq!(other.expected.printed, other.found.printed);
     assert_eq!((other.expected.left, other.found.left), (after, vec![]));

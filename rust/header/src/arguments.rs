@@ -30,6 +30,7 @@ fn sheets(call: Call) -> &'static [&'static str] {
         Call::CheckPushed | Call::CheckRaw | Call::PushedToRaw | Call::RawToPushed => {
             &["s", "t", "f", "run", "book", "list"]
         }
+        Call::Query => &["s1", "s2", "s3", "s4", "f", "g", "h", "run"],
     }
 }
 

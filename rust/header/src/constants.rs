@@ -39,9 +39,9 @@ macro_rules! stacks {
 }
 
 /// The bytes of stack that the calls need, which are tried where the wrapper is.
-pub const STACKS: [(&str, usize); 9] = stacks! {
+pub const STACKS: [(&str, usize); 10] = stacks! {
     STACK_CHECK_SCHEMA STACK_CHECK_MAPPING STACK_CHECK_INSTANCE STACK_FIRST_PATH STACK_PATH_CHAIN
-    STACK_DELTA STACK_SIGMA STACK_PI STACK_MATCHINGS
+    STACK_DELTA STACK_SIGMA STACK_PI STACK_QUERY STACK_MATCHINGS
 };
 
 /// The constants that are compared with the wrapper's numbers, since no call tells

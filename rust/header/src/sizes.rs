@@ -10,7 +10,7 @@ use vectors::chains::longer_way;
 
 /// Trials of the four sizes.
 pub fn longest() -> Vec<Trial> {
-    [longest_instances(), longest_lists(), longest_paths(), chains()].concat()
+    [longest_instances(), longest_queries(), longest_lists(), longest_paths(), chains()].concat()
 }
 
 /// The schema whose instances are the longest: 16 nodes, 32 edges and 16
@@ -56,6 +56,27 @@ fn longest_instances() -> Vec<Trial> {
     };
     trials.push(pulled("the longest result", longest).sized(TRAY, INSTANCE_BYTES, 0));
     trials.push(pulled("the longest result, a tray of a byte less", needed - 1));
+    trials
+}
+
+/// The same of a query between four such schemas, to themselves.
+fn longest_queries() -> Vec<Trial> {
+    let (schema, same) = (widest().to_sheet(), identity(&widest()).to_sheet());
+    let query = |name: String, run: Vec<u8>, tray: usize| {
+        let sheets = [vec![schema.clone(); 4], vec![same.clone(); 3], vec![run]].concat();
+        Trial::new(Case::new(name, Call::Query, sheets).with_tray(tray))
+    };
+    let longest = rows(512, 0).to_sheet();
+    let mut trials = Vec::new();
+    for (what, more, sheet) in around(&longest) {
+        let name = format!("a query of the longest instance sheet, {what}");
+        trials.push(query(name, sheet, 0).sized(8, INSTANCE_BYTES, more));
+    }
+    let dug = |name: &str, tray: usize| query(name.into(), rows(511, 1).to_sheet(), tray);
+    let needed = rows(511, 1).to_sheet().len();
+    let whole = dug("the longest result of a query", longest.len());
+    trials.push(whole.sized(TRAY, INSTANCE_BYTES, 0));
+    trials.push(dug("the longest result of a query, a tray of a byte less", needed - 1));
     trials
 }
 

@@ -64,6 +64,8 @@ fn the_sizes_are_those_of_the_papers() {
     };
     assert_eq!(result("the longest result"), (51_220, Some(51_120)));
     assert_eq!(result("the longest result, a tray of a byte less"), (51_119, None));
+    assert_eq!(result("the longest result of a query"), (51_220, Some(51_120)));
+    assert_eq!(result("the longest result of a query, a tray of a byte less"), (51_119, None));
     assert_eq!(result("the longest path, whole"), (11, Some(11)));
     assert_eq!(result("the longest path, a tray of a byte less"), (10, None));
     assert_eq!(result("the longest chain"), (320, Some(279)));

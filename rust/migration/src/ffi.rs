@@ -90,6 +90,27 @@ extern "C" {
         tray_len: usize,
     ) -> u64;
 
+    pub(crate) fn migration_query(
+        s1: *const u8,
+        s1_len: usize,
+        s2: *const u8,
+        s2_len: usize,
+        s3: *const u8,
+        s3_len: usize,
+        s4: *const u8,
+        s4_len: usize,
+        f: *const u8,
+        f_len: usize,
+        g: *const u8,
+        g_len: usize,
+        h: *const u8,
+        h_len: usize,
+        run: *const u8,
+        run_len: usize,
+        tray: *mut u8,
+        tray_len: usize,
+    ) -> u64;
+
     pub(crate) fn migration_check_pushed(
         s: *const u8,
         s_len: usize,

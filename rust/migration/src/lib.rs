@@ -48,6 +48,7 @@ mod ffi;
 mod first_path;
 mod matchings;
 mod migrations;
+mod query;
 mod refusal;
 
 pub use chain::{path_chain, path_chain_into};
@@ -57,11 +58,12 @@ pub use matchings::{
     check_pushed, check_raw, pushed_to_raw, pushed_to_raw_into, raw_to_pushed, raw_to_pushed_into,
 };
 pub use migrations::{delta, delta_into, pi, pi_into, sigma, sigma_into};
+pub use query::{query, query_into};
 pub use refusal::Refusal;
 
 /// The most bytes that an instance sheet has: "An instance sheet is at most
-/// 51,220 bytes."  A tray of this size holds every result of Delta, Sigma and
-/// Pi.
+/// 51,220 bytes."  A tray of this size holds every result of Delta, Sigma, Pi and
+/// the query.
 pub const MOST_INSTANCE_BYTES: usize = 51_220;
 
 /// The most bytes that a matching sheet has: 512 rows of 9 bits.  A tray of
@@ -99,6 +101,9 @@ pub const STACK_SIGMA: usize = 256 * 1024;
 
 /// The stack that [`pi`] needs.
 pub const STACK_PI: usize = 512 * 1024;
+
+/// The stack that [`query`] needs.
+pub const STACK_QUERY: usize = 672 * 1024;
 
 /// The stack that each of the two checkers and the two turnings needs.
 pub const STACK_MATCHINGS: usize = 392 * 1024;

@@ -25,7 +25,8 @@ pub struct Refusal {
 }
 
 /// Word and condition by number, as in document 01's table; 10 as request C-12 of
-/// document 02 has it.
+/// document 02 has it.  Of the query 12 is about Sigma along H, 13 and 14 about Pi along
+/// G.
 const TABLE: [(&str, &str); 17] = [
     ("cut", "the bits end before the last field does"),
     ("tail", "a filling bit is 1, or a byte follows"),

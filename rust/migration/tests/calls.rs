@@ -32,6 +32,21 @@ const CDF: [u8; 3] = [0x03, 0x10, 0xC8];
 /// The trivial path at the last node.
 const LAST: [u8; 1] = [0x40];
 
+/// Dents, losses and joints of S; to them pairs of a dent and a loss at one joint; dents
+/// and losses in one table, with the pairs.
+const S2: [u8; 7] = [0x18, 0x42, 0x00, 0x08, 0x48, 0x04, 0x44];
+const S3: [u8; 14] =
+    [0x20, 0x82, 0x04, 0x08, 0x48, 0xC0, 0xC4, 0x04, 0x44, 0xC8, 0x40, 0x32, 0x18, 0x40];
+const S4: [u8; 12] = [0x18, 0x61, 0x04, 0x04, 0x80, 0x80, 0x04, 0x88, 0x20, 0x22, 0x10, 0x00];
+const F2: [u8; 5] = [0x02, 0x11, 0x00, 0x84, 0x04];
+const G: [u8; 5] = [0x01, 0x21, 0x00, 0x84, 0x04];
+const H: [u8; 8] = [0x00, 0x12, 0x10, 0x08, 0x04, 0x22, 0x20, 0x00];
+/// Anomalies 700, 300, 705 at joints 1, 0, 1 of 2; anomalies 0 and 2 are a pair.
+const DUG: [u8; 22] = [
+    0x00, 0xC0, 0x20, 0x04, 0x02, 0x00, 0x00, 0x80, 0x00, 0x40, 0x00, //
+    0x00, 0x57, 0x80, 0x00, 0x00, 0x25, 0x80, 0x00, 0x00, 0x58, 0x20,
+];
+
 /// A call that fills a tray.
 type Fill<'a> = &'a dyn Fn(&mut [u8]) -> Result<usize, Refusal>;
 
@@ -68,6 +83,50 @@ fn both_forms_of_each_call_agree() {
     forms_agree(raw_to_pushed(&S, &T, &F, &RUN, &BOOK, &RAW), &|tray| {
         raw_to_pushed_into(&S, &T, &F, &RUN, &BOOK, &RAW, tray)
     });
+}
+
+#[test]
+fn both_forms_agree_on_a_query() {
+    let whole = query(&S, &S2, &S3, &S4, &F2, &G, &H, &RUN);
+    assert_eq!(whole, Ok(DUG.to_vec()));
+    forms_agree(whole, &|tray| query_into(&S, &S2, &S3, &S4, &F2, &G, &H, &RUN, tray));
+}
+
+/// A query gives what its three migrations give, one after the other.
+#[test]
+fn a_query_is_its_three_migrations() {
+    let projected = delta(&S2, &S, &F2, &RUN).unwrap();
+    let joined = pi(&S2, &S3, &G, &projected).unwrap();
+    assert_eq!(sigma(&S3, &S4, &H, &joined), Ok(DUG.to_vec()));
+}
+
+/// The place of each sheet of a query; of two that are damaged the earlier is told.
+#[test]
+fn each_place_of_a_query_is_told() {
+    let sheets: [&[u8]; 8] = [&S, &S2, &S3, &S4, &F2, &G, &H, &RUN];
+    let ask = |sheets: [&[u8]; 8]| {
+        let [s1, s2, s3, s4, f, g, h, run] = sheets;
+        query(s1, s2, s3, s4, f, g, h, run)
+    };
+    for place in 0..8 {
+        let (mut cut, mut rest_cut) = (sheets, sheets);
+        cut[place] = &[];
+        rest_cut[place..].fill(&[]);
+        assert_eq!(ask(cut), refused(1, place as u8 + 1));
+        assert_eq!(ask(rest_cut), refused(1, place as u8 + 1));
+    }
+}
+
+/// Two columns of S go to one of T: 13.  Case 4's mapping is uneven: 12.
+#[test]
+fn what_is_asked_of_g_and_h_is_told() {
+    let same_s = [0x01, 0x21, 0x00, 0x84, 0x04];
+    assert_eq!(query(&S, &S, &T, &T, &same_s, &F, &SAME, &RUN), refused(13, 0));
+    let (edge, same, node, to_node) =
+        ([0x10, 0x20, 0x00, 0x04], [0x01, 0x10, 0x00], [0x08, 0x00, 0x00], [0x00, 0x00]);
+    let run = [0x00, 0x40, 0x10, 0x00];
+    let answer = query(&edge, &edge, &edge, &node, &same, &same, &to_node, &run);
+    assert_eq!(answer, refused(12, 0));
 }
 
 #[test]

@@ -4,13 +4,14 @@
 mod painted;
 
 use migration::*;
-use reference::plain::{Edge, Schema};
+use reference::plain::{Edge, Instance, Mapping, Schema};
 use std::collections::BTreeMap;
 use std::env;
 use std::process::Command;
 use std::thread;
 use vectors::build::*;
 use vectors::call::{Call, Case};
+use vectors::digs::Dig;
 use vectors::full::{base, full};
 use vectors::hard::hard_sheets;
 use vectors::random::Random;
@@ -27,6 +28,7 @@ fn stack(call: Call) -> usize {
         Call::Delta => STACK_DELTA,
         Call::Sigma => STACK_SIGMA,
         Call::Pi => STACK_PI,
+        Call::Query => STACK_QUERY,
         Call::CheckPushed | Call::CheckRaw | Call::PushedToRaw | Call::RawToPushed => {
             STACK_MATCHINGS
         }
@@ -35,16 +37,30 @@ fn stack(call: Call) -> usize {
 
 /// The cases that a call may need most for: the base example, full size, each
 /// limit, each refusal, the longest sheets, the schemas with the longest paths; for
-/// Pi the hard sheets that are soon answered, and 64 components.
+/// Pi, and for the query between identities, the hard sheets that are soon answered, and
+/// 64 components.
 fn cases(call: Call) -> Vec<Case> {
     let fixed = fixed_and_refused(&mut Random::seeded(1));
     let mut cases = [base(), full(), fixed, longest_paths()].concat();
-    if call == Call::Pi {
-        let soon = hard_sheets().into_iter().filter(|sheet| sheet.most.as_secs() <= 1);
-        cases.extend(soon.map(|sheet| sheet.case).chain(deep()));
+    let soon = hard_sheets().into_iter().filter(|sheet| sheet.most.as_secs() <= 1);
+    let hard = soon.map(|sheet| sheet.case).chain(deep());
+    match call {
+        Call::Pi => cases.extend(hard),
+        Call::Query => cases.extend(hard.map(|case| dug(&case))),
+        _ => {}
     }
     cases.retain(|case| case.call == call);
     cases
+}
+
+/// The query that joins by a call of Pi: F and H are identities.
+fn dug(pi: &Case) -> Case {
+    let [s, t, g, run] = &pi.sheets[..] else { unreachable!("a call of pi") };
+    let [s, t] = [s, t].map(|sheet| Schema::accept(sheet).expect("an accepted schema"));
+    let g = Mapping::accept(&s, &t, g).expect("an accepted mapping");
+    let run = Instance::accept(&s, run).expect("an accepted run");
+    let (f, h) = (identity(&s), identity(&t));
+    Dig { schemas: [s.clone(), s, t.clone(), t], f, g, h, run }.case(pi.name.clone())
 }
 
 /// Schemas of 16 nodes one behind the other: doubled edges, which make too many

@@ -3,13 +3,13 @@
 //! comes first. ... Then 12, 13, 14, 15; then the matching sheet (1, 2, 17);
 //! last 16. A refusal is the number and the sheet's place counted from 1 (0 for
 //! 12 to 16)."  The calls of requests C-11 and C-14 of document 02 keep to that
-//! order.
+//! order; the query of C-15 has an order of its own.
 
 use crate::chains::Chain;
 use crate::instance::Instance;
 use crate::mapping::Mapping;
 use crate::matching::Matching;
-use crate::migrate;
+use crate::migrate::{self, Gathering, Pushing};
 use crate::paths::Path;
 use crate::refusal::{Judged, Refusal, SMALL_TRAY};
 use crate::schema::Schema;
@@ -90,6 +90,50 @@ pub fn pi(s: &[u8], t: &[u8], f: &[u8], i: &[u8]) -> Result<Vec<u8>, Refusal> {
     let i = at(4, Instance::accept(&mapped.s, i))?;
     let result = at(0, migrate::pi(&mapped.s, &mapped.t, &mapped.f, &i))?;
     Ok(result.to_sheet())
+}
+
+/// The query of request C-15 of document 02: it "takes four schemas, three
+/// mappings F, G, H and a run, and gives Sigma along H of Pi along G of Delta
+/// along F, as in definition 2 of source document 000. F goes from the second
+/// schema to the first, G from the second to the third, H from the third to the
+/// fourth."  The run is over the first schema, the result over the fourth: its
+/// whole sheet.
+#[expect(clippy::too_many_arguments, reason = "the request has eight sheets")]
+pub fn query(
+    s1: &[u8],
+    s2: &[u8],
+    s3: &[u8],
+    s4: &[u8],
+    f: &[u8],
+    g: &[u8],
+    h: &[u8],
+    run: &[u8],
+) -> Result<Vec<u8>, Refusal> {
+    query_decoded([s1, s2, s3, s4, f, g, h, run]).map(|(_, result)| result.to_sheet())
+}
+
+/// The query of eight sheets in the order of their places, decoded, with the
+/// fourth schema.
+///
+/// "Sheets are judged schemas first, then F, G, H, then the run; then 13 and 14
+/// for G, 12 for H, and 15 after each migration in turn."  So 13, 14 and 12 come
+/// before the first migration.
+pub(crate) fn query_decoded(sheets: [&[u8]; 8]) -> Result<(Schema, Instance), Refusal> {
+    let [s1, s2, s3, s4, f, g, h, run] = sheets;
+    let s1 = at(1, Schema::accept(s1))?;
+    let s2 = at(2, Schema::accept(s2))?;
+    let s3 = at(3, Schema::accept(s3))?;
+    let s4 = at(4, Schema::accept(s4))?;
+    let f = at(5, Mapping::accept(&s2, &s1, f))?;
+    let g = at(6, Mapping::accept(&s2, &s3, g))?;
+    let h = at(7, Mapping::accept(&s3, &s4, h))?;
+    let run = at(8, Instance::accept(&s1, run))?;
+    let joining = at(0, Gathering::along(&s2, &s3, &g))?;
+    let uniting = at(0, Pushing::along(&s3, &s4, &h))?;
+    let projected = at(0, migrate::delta(&s2, &f, &run))?;
+    let joined = at(0, joining.of(&projected))?;
+    let united = at(0, uniting.of(&joined))?;
+    Ok((s4, united))
 }
 
 /// The pushed side's checker: the list (place 6) is a matching from Sigma of

@@ -1,7 +1,7 @@
 //! A naive reference implementation of document 01, "Delta, Sigma and Pi for
-//! inspection run records", and of requests C-11, C-12 and C-14 of document 02,
-//! "Which rules made these paths equal", "Twelve o'clock is 720" and "The first
-//! path of a class".
+//! inspection run records", and of requests C-11, C-12, C-14 and C-15 of document
+//! 02, "Which rules made these paths equal", "Twelve o'clock is 720", "The first
+//! path of a class" and "The dig sheet".
 //!
 //! It is written from the definitions, clarity before speed: equal paths are
 //! found by searching chains of steps, and the first of them stands for all;
@@ -9,8 +9,8 @@
 //! all paths, and the rows of Pi are listed as families.  It serves as the other
 //! implementation against which results are compared.
 //!
-//! The calls take sheets as byte slices, in the order in which document 01
-//! judges them.  The decoded types and their encoders are gathered in
+//! The calls take sheets as byte slices, in the order in which the papers
+//! judge them.  The decoded types and their encoders are gathered in
 //! [`plain`].
 
 #![forbid(unsafe_code)]
@@ -33,9 +33,9 @@ pub mod schema;
 
 pub use calls::{
     check_instance, check_mapping, check_pushed, check_raw, check_schema, delta, first_path,
-    into_tray, into_tray_or_none, path_chain, pi, pushed_to_raw, raw_to_pushed, sigma,
+    into_tray, into_tray_or_none, path_chain, pi, pushed_to_raw, query, raw_to_pushed, sigma,
 };
-pub use program::push;
+pub use program::{dig, push};
 pub use refusal::Refusal;
 
 /// The decoded sheets as plain types with public fields.

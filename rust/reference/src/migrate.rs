@@ -28,49 +28,57 @@ pub fn delta(s: &Schema, f: &Mapping, j: &Instance) -> Judged<Instance> {
 /// "Sigma: the table at d is the joined list of the tables at all c with F(c) =
 /// d, c ascending, rows in order."  Gives 12 and 15.
 pub fn sigma(s: &Schema, t: &Schema, f: &Mapping, i: &Instance) -> Judged<Instance> {
-    let lifting = Lifting::new(s, t, f);
-    demand(lifting.is_even(), UNEVEN)?;
-    let pushing = Pushing { s, t, f, i, lifting };
-    let rows = (0..t.nodes).map(|d| f.fibre(d).iter().map(|&c| i.rows[c]).sum());
-    let links = (0..t.edges.len()).map(|e| pushing.link(e));
-    let values = (0..t.attributes.len()).map(|b| pushing.column(b));
-    let (rows, links, values) = (rows.collect(), links.collect(), values.collect());
-    Instance { rows, links, values }.unless_overfull()
+    Pushing::along(s, t, f)?.of(i)
 }
 
-/// Sigma of an instance I along an even mapping.
-struct Pushing<'a> {
+/// Sigma along an even mapping, before an instance is lent.
+pub struct Pushing<'a> {
     s: &'a Schema,
     t: &'a Schema,
     f: &'a Mapping,
-    i: &'a Instance,
     lifting: Lifting<'a>,
 }
 
-impl Pushing<'_> {
+impl<'a> Pushing<'a> {
+    /// Sigma along an accepted mapping between accepted schemas.  Gives 12.
+    pub fn along(s: &'a Schema, t: &'a Schema, f: &'a Mapping) -> Judged<Self> {
+        let lifting = Lifting::new(s, t, f);
+        demand(lifting.is_even(), UNEVEN)?;
+        Ok(Pushing { s, t, f, lifting })
+    }
+
+    /// Sigma of an instance I of S.  Gives 15.
+    pub fn of(&self, i: &Instance) -> Judged<Instance> {
+        let size = |d: usize| self.f.fibre(d).iter().map(|&c| i.rows[c]).sum();
+        let rows = (0..self.t.nodes).map(size).collect();
+        let links = (0..self.t.edges.len()).map(|e| self.link(i, e)).collect();
+        let values = (0..self.t.attributes.len()).map(|b| self.column(i, b)).collect();
+        Instance { rows, links, values }.unless_overfull()
+    }
+
     /// "A link follows the one path over its edge, and its target is numbered
     /// by its place in the joined list."
-    fn link(&self, edge: usize) -> Vec<usize> {
+    fn link(&self, i: &Instance, edge: usize) -> Vec<usize> {
         let mut targets = Vec::new();
         for c in self.f.fibre(self.t.edges[edge].source) {
             let path = self.lifting.edge_lift(c, edge);
             let end = path.end(self.s).expect("a lift joins up");
-            let first = self.first_place(end);
-            targets.extend((0..self.i.rows[c]).map(|row| first + self.i.follow(path, row)));
+            let first = self.first_place(i, end);
+            targets.extend((0..i.rows[c]).map(|row| first + i.follow(path, row)));
         }
         targets
     }
 
     /// The place of the first row from c in the joined list at F(c).
-    fn first_place(&self, c: usize) -> usize {
+    fn first_place(&self, i: &Instance, c: usize) -> usize {
         let fibre = self.f.fibre(self.f.nodes[c]).into_iter();
-        fibre.filter(|&before| before < c).map(|before| self.i.rows[before]).sum()
+        fibre.filter(|&before| before < c).map(|before| i.rows[before]).sum()
     }
 
     /// "An attribute copies, for the rows from c, the one column at c over it."
-    fn column(&self, attribute: usize) -> Vec<u32> {
+    fn column(&self, i: &Instance, attribute: usize) -> Vec<u32> {
         let fibre = self.f.fibre(self.t.attributes[attribute].node).into_iter();
-        fibre.flat_map(|c| self.i.values[self.lifting.column_lift(c, attribute)].clone()).collect()
+        fibre.flat_map(|c| i.values[self.lifting.column_lift(c, attribute)].clone()).collect()
     }
 }
 
@@ -80,16 +88,7 @@ pub const MOST_COMPONENTS: usize = 64;
 /// "A row is one row of I(c) per component"; see [`crate::families`].  Gives
 /// 13, 14 and 15, the 14 of any table before the 15 of any.
 pub fn pi(s: &Schema, t: &Schema, f: &Mapping, i: &Instance) -> Judged<Instance> {
-    demand(f.pairs_attributes(t), UNPAIRED)?;
-    let gathering = Gathering { s, t, f, i, classes: Classes::of(t) };
-    let tables: Vec<Vec<Component>> = (0..t.nodes).map(|d| gathering.components(d)).collect();
-    demand(tables.iter().all(|table| table.len() <= MOST_COMPONENTS), WIDE)?;
-    let families = gathering.families(&tables)?;
-    let rows = families.iter().map(Vec::len).collect();
-    let links = (0..t.edges.len()).map(|e| gathering.link(e, &tables, &families)).collect();
-    let columns = 0..t.attributes.len();
-    let values = columns.map(|b| gathering.column(b, &tables, &families)).collect();
-    Ok(Instance { rows, links, values })
+    Gathering::along(s, t, f)?.of(i)
 }
 
 /// "a component at d is a node c with a class of equal paths from d to F(c),
@@ -104,16 +103,41 @@ struct Component<'a> {
 /// The families of one table: each has one row per component.
 type Families = Vec<Vec<usize>>;
 
-/// Pi of an instance I along an accepted mapping.
-struct Gathering<'a> {
+/// Pi along a mapping that Pi takes, before an instance is lent.
+pub struct Gathering<'a> {
     s: &'a Schema,
     t: &'a Schema,
     f: &'a Mapping,
-    i: &'a Instance,
     classes: Classes,
 }
 
-impl Gathering<'_> {
+impl<'a> Gathering<'a> {
+    /// Pi along an accepted mapping between accepted schemas.  Gives 13 and 14.
+    pub fn along(s: &'a Schema, t: &'a Schema, f: &'a Mapping) -> Judged<Self> {
+        demand(f.pairs_attributes(t), UNPAIRED)?;
+        let gathering = Gathering { s, t, f, classes: Classes::of(t) };
+        let is_wide = |table: &Vec<Component>| table.len() > MOST_COMPONENTS;
+        demand(!gathering.tables().iter().any(is_wide), WIDE)?;
+        Ok(gathering)
+    }
+
+    /// Pi of an instance I of S.  Gives 15.
+    pub fn of(&self, i: &Instance) -> Judged<Instance> {
+        let tables = self.tables();
+        let families = self.families(i, &tables)?;
+        let rows = families.iter().map(Vec::len).collect();
+        let edges = 0..self.t.edges.len();
+        let links = edges.map(|e| self.link(e, &tables, &families)).collect();
+        let columns = 0..self.t.attributes.len();
+        let values = columns.map(|b| self.column(i, b, &tables, &families)).collect();
+        Ok(Instance { rows, links, values })
+    }
+
+    /// The components of each table.
+    fn tables(&self) -> Vec<Vec<Component<'_>>> {
+        (0..self.t.nodes).map(|d| self.components(d)).collect()
+    }
+
     /// The components at d, in order.
     fn components(&self, d: usize) -> Vec<Component<'_>> {
         let mut components = Vec::new();
@@ -127,11 +151,11 @@ impl Gathering<'_> {
     }
 
     /// The families of all tables; 15 as soon as they are more than 512.
-    fn families(&self, tables: &[Vec<Component>]) -> Judged<Vec<Families>> {
+    fn families(&self, i: &Instance, tables: &[Vec<Component>]) -> Judged<Vec<Families>> {
         let mut families = Vec::new();
         let mut free = Instance::MOST_ROWS;
         for table in tables {
-            let found = self.diagram(table).families(free).ok_or(OVERFULL)?;
+            let found = self.diagram(i, table).families(free).ok_or(OVERFULL)?;
             free -= found.len();
             families.push(found);
         }
@@ -139,13 +163,13 @@ impl Gathering<'_> {
     }
 
     /// The components of one table and the S-edges between them.
-    fn diagram(&self, table: &[Component]) -> Diagram {
-        let sizes = table.iter().map(|component| self.i.rows[component.node]).collect();
+    fn diagram(&self, i: &Instance, table: &[Component]) -> Diagram {
+        let sizes = table.iter().map(|component| i.rows[component.node]).collect();
         let mut arrows = Vec::new();
         for (from, component) in table.iter().enumerate() {
             for edge in self.s.edges_from(component.node) {
                 let to = place(table, self.carried(*component, edge));
-                arrows.push(Arrow { from, to, carry: self.i.links[edge].clone() });
+                arrows.push(Arrow { from, to, carry: i.links[edge].clone() });
             }
         }
         Diagram { sizes, arrows }
@@ -177,13 +201,19 @@ impl Gathering<'_> {
 
     /// "An attribute is read at the component with its S-node and the trivial
     /// path."
-    fn column(&self, b: usize, tables: &[Vec<Component>], families: &[Families]) -> Vec<u32> {
+    fn column(
+        &self,
+        i: &Instance,
+        b: usize,
+        tables: &[Vec<Component>],
+        families: &[Families],
+    ) -> Vec<u32> {
         let d = self.t.attributes[b].node;
         let over = self.f.attributes_over(b);
         let a = *over.first().expect("a bijection has an attribute over each");
         let first = self.classes.first(&Path::trivial(d));
         let k = place(&tables[d], Component { node: self.s.attributes[a].node, first });
-        families[d].iter().map(|family| self.i.values[a][family[k]]).collect()
+        families[d].iter().map(|family| i.values[a][family[k]]).collect()
     }
 }
 

@@ -1,6 +1,7 @@
-//! The push program: Sigma of the run on standard input, as text.
+//! The programs: the push program, Sigma of the run on standard input, as text,
+//! and the dig sheet of request C-15 of document 02, the query of the run.
 
-use crate::calls::sigma_decoded;
+use crate::calls::{query_decoded, sigma_decoded};
 use crate::instance::Instance;
 use crate::refusal::Refusal;
 use crate::schema::Schema;
@@ -9,15 +10,25 @@ use crate::schema::Schema;
 /// and run from standard input, each after its 16-bit byte length, most
 /// significant byte first".  Every line ends with a newline.
 pub fn push(input: &[u8]) -> Vec<u8> {
-    let (s, rest) = next_sheet(input);
-    let (t, rest) = next_sheet(rest);
-    let (f, rest) = next_sheet(rest);
-    let (run, _) = next_sheet(rest);
-    let text = match sigma_decoded(s, t, f, run) {
-        Ok((schema, instance)) => table_text(&schema, &instance),
-        Err(refusal) => refusal_text(refusal),
-    };
-    text.into_bytes()
+    let [s, t, f, run] = first_sheets(input);
+    text(sigma_decoded(s, t, f, run)).into_bytes()
+}
+
+/// The text that the dig sheet's program prints for its whole input: "It reads
+/// its eight sheets as the push program does and prints that program's lines."
+/// They are the four schemas, F, G, H and the run.
+pub fn dig(input: &[u8]) -> Vec<u8> {
+    text(query_decoded(first_sheets(input))).into_bytes()
+}
+
+/// The sheets that a program reads; bytes after the last of them "are not read".
+fn first_sheets<const COUNT: usize>(input: &[u8]) -> [&[u8]; COUNT] {
+    let mut rest = input;
+    [(); COUNT].map(|()| {
+        let (sheet, after) = next_sheet(rest);
+        rest = after;
+        sheet
+    })
 }
 
 /// The sheet at the start of the input, and what follows it.  "Bytes that the
@@ -30,6 +41,14 @@ fn next_sheet(input: &[u8]) -> (&[u8], &[u8]) {
             rest.split_at(length.min(rest.len()))
         }
         _ => (&[], &[]),
+    }
+}
+
+/// The lines of a result or of a refusal.
+fn text(result: Result<(Schema, Instance), Refusal>) -> String {
+    match result {
+        Ok((schema, instance)) => table_text(&schema, &instance),
+        Err(refusal) => refusal_text(refusal),
     }
 }
 

@@ -10,13 +10,6 @@ use std::process::{Command, Stdio};
 
 const BASE_TEXT: &str = "tables 2 rows 5\n0 0 1 700\n0 1 0 300\n0 2 1 705\n1 0\n1 1\n";
 
-/// Sheets, each after its 16-bit byte length.
-fn input(sheets: &[Vec<u8>]) -> Vec<u8> {
-    let with_length =
-        |sheet: &Vec<u8>| [(sheet.len() as u16).to_be_bytes().to_vec(), sheet.clone()].concat();
-    sheets.iter().flat_map(with_length).collect()
-}
-
 fn base_input() -> Vec<u8> {
     input(&[base_s(), base_t(), base_f(), base_run()])
 }

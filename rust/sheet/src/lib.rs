@@ -5,8 +5,8 @@
 //! [`Matching`].  Each is read from text by `parse`, written as text, encoded
 //! by `to_sheet` and decoded by `from_sheet`.  A [`Chain`] of steps between equal
 //! paths comes only from a call: it is decoded, and written as lines.  A
-//! [`Question`] is a proved call with what it is lent; when it refuses,
-//! [`Question::explain`] finds the line or row that causes it.
+//! [`Question`] is a proved call with what it is lent, of a query by its [`Route`];
+//! when it refuses, [`Question::explain`] finds the line or row that causes it.
 //!
 //! A run with two dents and a loss, pushed to the operator's book:
 //!
@@ -54,6 +54,7 @@ mod mapping;
 mod matching;
 pub mod names;
 mod path;
+mod query;
 mod question;
 mod schema;
 mod tables;
@@ -70,6 +71,7 @@ pub use lent::{Lent, LentSchema};
 pub use mapping::Mapping;
 pub use matching::Matching;
 pub use path::Path;
+pub use query::{Route, Stage};
 pub use question::{Answer, Call, Question, Role};
 pub use schema::{Column, Equation, Link, Schema};
 pub use tables::aligned_tables;

@@ -3,6 +3,7 @@
 use crate::instance::Instance;
 use crate::lent::{Lent, LentSchema};
 use crate::mapping::Mapping;
+use crate::query::{Route, Stage};
 use crate::schema::Schema;
 use migration::{
     Refusal, MOST_CHAIN_BYTES, MOST_INSTANCE_BYTES, MOST_MATCHING_BYTES, MOST_PATH_BYTES,
@@ -29,6 +30,8 @@ pub enum Call {
     Sigma,
     /// Pushes an instance of S to T by fitting choices.
     Pi,
+    /// Sigma of Pi of Delta, each along a mapping of its own.
+    Query,
     /// Checks a matching of the pushed side.
     CheckPushed,
     /// Checks a matching of the raw side.
@@ -48,7 +51,7 @@ pub enum Role {
     T,
     /// The mapping of S to T.
     Mapping,
-    /// An instance of S.
+    /// An instance of S, or of a query's S1.
     Run,
     /// An instance of T.
     Book,
@@ -58,6 +61,10 @@ pub enum Role {
     Q,
     /// The list of partners.
     List,
+    /// A query's schema by its number: S1 to S4.
+    Schema(usize),
+    /// The mapping of a query's stage: F, G or H.
+    Along(Stage),
 }
 
 impl Call {
@@ -73,6 +80,7 @@ impl Call {
             Call::Delta => "delta",
             Call::Sigma => "sigma",
             Call::Pi => "pi",
+            Call::Query => "query",
             Call::CheckPushed => "check_pushed",
             Call::CheckRaw => "check_raw",
             Call::PushedToRaw => "pushed_to_raw",
@@ -82,7 +90,8 @@ impl Call {
 
     /// What the sheets are, in the order of their places.
     pub fn roles(self) -> &'static [Role] {
-        use Role::{Book, List, Mapping, Run, P, Q, S, T};
+        use Role::{Along, Book, List, Mapping, Run, Schema, P, Q, S, T};
+        use Stage::{Join, Project, Unite};
         match self {
             Call::CheckSchema => &[S],
             Call::CheckMapping => &[S, T, Mapping],
@@ -91,9 +100,37 @@ impl Call {
             Call::SamePath | Call::PathChain => &[S, P, Q],
             Call::Delta => &[S, T, Mapping, Book],
             Call::Sigma | Call::Pi => &[S, T, Mapping, Run],
+            Call::Query => &[
+                Schema(1),
+                Schema(2),
+                Schema(3),
+                Schema(4),
+                Along(Project),
+                Along(Join),
+                Along(Unite),
+                Run,
+            ],
             Call::CheckPushed | Call::CheckRaw | Call::PushedToRaw | Call::RawToPushed => {
                 &[S, T, Mapping, Run, Book, List]
             }
+        }
+    }
+
+    /// The schema that the run is an instance of.
+    pub fn run_schema(self) -> Role {
+        match self {
+            Call::Query => Role::Schema(1),
+            _ => Role::S,
+        }
+    }
+
+    /// The bytes of a tray that holds every result.
+    pub fn most_bytes(self) -> usize {
+        match self {
+            Call::PushedToRaw | Call::RawToPushed => MOST_MATCHING_BYTES,
+            Call::FirstPath => MOST_PATH_BYTES,
+            Call::PathChain => MOST_CHAIN_BYTES,
+            _ => MOST_INSTANCE_BYTES,
         }
     }
 
@@ -147,7 +184,7 @@ pub struct Question {
     pub t: Option<LentSchema>,
     /// The mapping.
     pub mapping: Option<Lent>,
-    /// The instance of S.
+    /// The instance of S, or of a query's S1.
     pub run: Option<Lent>,
     /// The instance of T.
     pub book: Option<Lent>,
@@ -157,6 +194,11 @@ pub struct Question {
     pub q: Option<Lent>,
     /// The list of partners.
     pub list: Option<Lent>,
+    /// The schemas and mappings of a query.
+    pub route: Route,
+    /// The stage of a query that this question is; none where it is asked for
+    /// itself.
+    pub(crate) stage: Option<Stage>,
     /// The bytes of the lent tray; by default one that holds every result.
     pub tray: Option<usize>,
 }
@@ -174,6 +216,8 @@ impl Question {
             p: None,
             q: None,
             list: None,
+            route: Route::default(),
+            stage: None,
             tray: None,
         }
     }
@@ -181,14 +225,37 @@ impl Question {
     /// The sheet with a role.
     pub fn lent(&self, role: Role) -> Option<&Lent> {
         match role {
-            Role::S => self.s.as_ref().map(|schema| &schema.lent),
-            Role::T => self.t.as_ref().map(|schema| &schema.lent),
+            Role::S | Role::T | Role::Schema(_) => self.lent_schema(role).map(|found| &found.lent),
             Role::Mapping => self.mapping.as_ref(),
             Role::Run => self.run.as_ref(),
             Role::Book => self.book.as_ref(),
             Role::P => self.p.as_ref(),
             Role::Q => self.q.as_ref(),
             Role::List => self.list.as_ref(),
+            Role::Along(stage) => self.route.mapping(stage),
+        }
+    }
+
+    /// The schema with a role; none where the role is no schema's.
+    pub fn lent_schema(&self, role: Role) -> Option<&LentSchema> {
+        match role {
+            Role::S => self.s.as_ref(),
+            Role::T => self.t.as_ref(),
+            Role::Schema(number) => self.route.schema(number),
+            _ => None,
+        }
+    }
+
+    /// Lends a schema; nothing where the role is no schema's.
+    pub fn lend_schema(&mut self, role: Role, schema: LentSchema) {
+        let place = match role {
+            Role::S => Some(&mut self.s),
+            Role::T => Some(&mut self.t),
+            Role::Schema(number) => self.route.schemas.get_mut(number.wrapping_sub(1)),
+            _ => None,
+        };
+        if let Some(place) = place {
+            *place = Some(schema);
         }
     }
 
@@ -211,47 +278,44 @@ impl Question {
             Call::CheckSchema => migration::check_schema(s).map(accepted),
             Call::CheckMapping => migration::check_mapping(s, t, f).map(accepted),
             Call::CheckInstance => migration::check_instance(s, run).map(accepted),
-            Call::FirstPath => {
-                self.filled(MOST_PATH_BYTES, |tray| migration::first_path_into(s, p, tray))
-            }
+            Call::FirstPath => self.filled(|tray| migration::first_path_into(s, p, tray)),
             Call::SamePath => same_path(s, p, q).map(Answer::Equal),
             Call::PathChain => {
-                let mut tray = self.new_tray(MOST_CHAIN_BYTES);
+                let mut tray = self.new_tray();
                 let length = migration::path_chain_into(s, p, q, &mut tray)?;
                 Ok(length.map_or(Answer::Equal(false), |length| filled(tray, length)))
             }
-            Call::Delta => {
-                self.filled(MOST_INSTANCE_BYTES, |tray| migration::delta_into(s, t, f, book, tray))
-            }
-            Call::Sigma => {
-                self.filled(MOST_INSTANCE_BYTES, |tray| migration::sigma_into(s, t, f, run, tray))
-            }
-            Call::Pi => {
-                self.filled(MOST_INSTANCE_BYTES, |tray| migration::pi_into(s, t, f, run, tray))
-            }
+            Call::Delta => self.filled(|tray| migration::delta_into(s, t, f, book, tray)),
+            Call::Sigma => self.filled(|tray| migration::sigma_into(s, t, f, run, tray)),
+            Call::Pi => self.filled(|tray| migration::pi_into(s, t, f, run, tray)),
+            Call::Query => self.filled(|tray| self.query_into(tray)),
             Call::CheckPushed => migration::check_pushed(s, t, f, run, book, list).map(accepted),
             Call::CheckRaw => migration::check_raw(s, t, f, run, book, list).map(accepted),
-            Call::PushedToRaw => self.filled(MOST_MATCHING_BYTES, |tray| {
-                migration::pushed_to_raw_into(s, t, f, run, book, list, tray)
-            }),
-            Call::RawToPushed => self.filled(MOST_MATCHING_BYTES, |tray| {
-                migration::raw_to_pushed_into(s, t, f, run, book, list, tray)
-            }),
+            Call::PushedToRaw => {
+                self.filled(|tray| migration::pushed_to_raw_into(s, t, f, run, book, list, tray))
+            }
+            Call::RawToPushed => {
+                self.filled(|tray| migration::raw_to_pushed_into(s, t, f, run, book, list, tray))
+            }
         }
     }
 
-    /// The tray that is lent, where `most` bytes hold every result.
-    fn new_tray(&self, most: usize) -> Vec<u8> {
-        vec![0; self.tray.unwrap_or(most)]
+    /// The tray that is lent: by default one that holds every result.
+    fn new_tray(&self) -> Vec<u8> {
+        vec![0; self.tray.unwrap_or(self.call.most_bytes())]
     }
 
     fn filled(
         &self,
-        most: usize,
         call: impl FnOnce(&mut [u8]) -> Result<usize, Refusal>,
     ) -> Result<Answer, Refusal> {
-        let mut tray = self.new_tray(most);
+        let mut tray = self.new_tray();
         call(&mut tray).map(|length| filled(tray, length))
+    }
+
+    /// What S and T are called.
+    pub(crate) fn schema_names(&self) -> [&'static str; 2] {
+        self.stage.map_or(["S", "T"], Stage::schema_names)
     }
 
     /// S with its names, where it can be decoded.

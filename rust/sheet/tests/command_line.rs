@@ -9,8 +9,8 @@ use std::process::Stdio;
 #[test]
 fn bad_usage_has_status_2_and_points_to_the_help() {
     let folder = Folder::with_example("usage", "base");
-    let names = "pack, show, check, delta, sigma, pi, match, turn, first-path, same-path, why, \
-                 draw, version or help";
+    let names = "pack, show, check, delta, sigma, pi, query, match, turn, first-path, same-path, \
+                 why, draw, version or help";
     let told = |line: &str, what: &str, see: &str| {
         folder.sheet(line).bad(&format!("sheet: {what}\nsee `sheet help{see}`\n"));
     };
@@ -67,6 +67,7 @@ fn help_goes_to_standard_output() {
         "delta",
         "sigma",
         "pi",
+        "query",
         "match",
         "turn",
         "first-path",

@@ -5,7 +5,8 @@ mod common;
 
 use common::generate::{self, Random};
 use sheet::{
-    Answer, Call, Fault, Instance, Lent, LentSchema, Matching, Path, Question, Role, Schema,
+    Answer, Call, Fault, Instance, Lent, LentSchema, Mapping, Matching, Path, Question, Role,
+    Schema,
 };
 
 /// A question in which everything is accepted: an even mapping of copies of T,
@@ -33,6 +34,9 @@ fn accepted(random: &mut Random, call: Call) -> Question {
         question.book = Some(Lent::from_sheet("book.sheet", book));
         question.list = Some(Lent::from_sheet("list.sheet", own.to_sheet().unwrap()));
         let Ok(Answer::Sheet(raw)) = question.ask() else { continue };
+        if call == Call::Query {
+            route(&mut question, &s);
+        }
         if matches!(call, Call::CheckRaw | Call::RawToPushed) {
             question.list = Some(Lent::from_sheet("list.sheet", raw));
         }
@@ -42,6 +46,17 @@ fn accepted(random: &mut Random, call: Call) -> Question {
         question.call = call;
         return question;
     }
+}
+
+/// The query that pulls the book back along the mapping, joins each table with
+/// itself alone, and pushes along the mapping again.
+fn route(question: &mut Question, s: &Schema) {
+    let (s_lent, t_lent) = (question.s.clone(), question.t.clone());
+    let same = generate::copies(s, 1).1.to_sheet().unwrap();
+    let (f, same) = (question.mapping.clone(), Lent::from_sheet("same.sheet", same));
+    question.route.schemas = [t_lent.clone(), s_lent.clone(), s_lent, t_lent];
+    question.route.mappings = [f.clone(), Some(same), f];
+    question.run = question.book.clone();
 }
 
 fn damage(random: &mut Random, sheet: &mut Vec<u8>) {
@@ -61,18 +76,20 @@ fn set(question: &mut Question, role: Role, sheet: Vec<u8>) {
     let file = question.lent(role).unwrap().file.clone();
     let lent = Some(Lent::from_sheet(&file, sheet.clone()));
     match role {
-        Role::S => question.s = Some(LentSchema::from_sheet(&file, sheet)),
-        Role::T => question.t = Some(LentSchema::from_sheet(&file, sheet)),
+        Role::S | Role::T | Role::Schema(_) => {
+            question.lend_schema(role, LentSchema::from_sheet(&file, sheet));
+        }
         Role::Mapping => question.mapping = lent,
         Role::Run => question.run = lent,
         Role::Book => question.book = lent,
         Role::P => question.p = lent,
         Role::Q => question.q = lent,
         Role::List => question.list = lent,
+        Role::Along(stage) => question.route.mappings[stage as usize] = lent,
     }
 }
 
-const CALLS: [Call; 13] = [
+const CALLS: [Call; 14] = [
     Call::CheckSchema,
     Call::CheckMapping,
     Call::CheckInstance,
@@ -82,6 +99,7 @@ const CALLS: [Call; 13] = [
     Call::Delta,
     Call::Sigma,
     Call::Pi,
+    Call::Query,
     Call::CheckPushed,
     Call::CheckRaw,
     Call::PushedToRaw,
@@ -120,7 +138,8 @@ fn the_cause_is_found_along_mappings_at_random() {
         question.run = Some(Lent::from_sheet("run.sheet", run.to_sheet().unwrap()));
         question.book = Some(Lent::from_sheet("book.sheet", book.to_sheet().unwrap()));
         question.list = Some(Lent::from_sheet("list.sheet", vec![0; random.below(6)]));
-        for call in CALLS.into_iter().filter(|call| !call.roles().contains(&Role::P)) {
+        let others = |call: &Call| *call != Call::Query && !call.roles().contains(&Role::P);
+        for call in CALLS.into_iter().filter(others) {
             question.call = call;
             met[cause_is_found(&question, seed)] += 1;
         }
@@ -131,6 +150,48 @@ fn the_cause_is_found_along_mappings_at_random() {
     assert_eq!(met[10], 0, "the values are on scale");
 }
 
+/// Mappings F and G at random from one schema, from which the links without an
+/// image are taken out.
+fn span(random: &mut Random, s2: &mut Schema, s1: &Schema, s3: &Schema) -> [Mapping; 2] {
+    loop {
+        let f = generate::mapping(random, s2, s1);
+        let links = s2.links.len();
+        let g = generate::mapping(random, s2, s3);
+        if s2.links.len() == links {
+            return [f, g];
+        }
+    }
+}
+
+#[test]
+fn the_cause_is_found_along_routes_at_random() {
+    let mut met = [0; 18];
+    for seed in 0..600 {
+        let random = &mut Random::seeded(seed);
+        let [s1, mut s2, mut s3, s4] = [(); 4].map(|()| generate::schema(random));
+        s2.columns.clear();
+        s3.columns.clear();
+        let mut h = generate::mapping(random, &mut s3, &s4);
+        if random.below(2) == 0 {
+            // An even one, along which there may be columns.
+            (s3, h) = generate::copies(&s4, 1 + random.below(2));
+        }
+        let mappings = span(random, &mut s2, &s1, &s3);
+        let run = generate::instance(random, &s1, 40);
+        let mut question = Question::new(Call::Query);
+        question.route.schemas = [s1, s2, s3, s4]
+            .map(|schema| Some(LentSchema::from_sheet("schema", schema.to_sheet().unwrap())));
+        let [f, g] = mappings;
+        question.route.mappings =
+            [f, g, h].map(|along| Some(Lent::from_sheet("mapping", along.to_sheet().unwrap())));
+        question.run = Some(Lent::from_sheet("run", run.to_sheet().unwrap()));
+        met[cause_is_found(&question, seed)] += 1;
+    }
+    for number in [0, 8, 12, 13, 15] {
+        assert!(met[number] > 0, "refusal {number} was not met: {met:?}");
+    }
+}
+
 #[test]
 fn the_cause_of_every_refusal_is_found() {
     let mut met = [0; 18];
@@ -138,7 +199,7 @@ fn the_cause_of_every_refusal_is_found() {
         let random = &mut Random::seeded(seed);
         for call in CALLS {
             let mut question = accepted(random, call);
-            if call != Call::Pi {
+            if !matches!(call, Call::Pi | Call::Query) {
                 assert!(question.ask().is_ok());
             }
             for _ in 0..1 + random.below(2) {
@@ -196,7 +257,7 @@ fn text_of_noise_is_bad_text_and_no_panic() {
         let random = &mut Random::seeded(seed);
         let text: String = (0..random.below(60)).map(|_| *random.one_of(&letters)).collect();
         let _ = Schema::parse("a.schema", &text);
-        let _ = sheet::Mapping::parse("a.mapping", &text, &schema, &schema);
+        let _ = Mapping::parse("a.mapping", &text, &schema, &schema);
         let _ = Matching::parse("a.csv", &text, &schema);
         let _ = Path::parse(&schema, &text);
         let tables =

@@ -61,20 +61,22 @@ fn run_blocks(page: &Path, marked: &str, example_name: &str) -> usize {
 #[test]
 fn the_pages_show_what_the_command_does() {
     let folder = documentation();
-    let (mut pages, mut of_the_book) = (0, 0);
+    let (mut pages, mut of_the_book, mut of_the_digs) = (0, 0, 0);
     for name in names_in(&folder).iter().filter(|name| name.ends_with(".md")) {
         assert!(run_page(&folder.join(name), "base") > 0, "{name} shows no command");
         of_the_book += run_blocks(&folder.join(name), "console book", "book");
+        of_the_digs += run_blocks(&folder.join(name), "console dig", "dig");
         pages += 1;
     }
     assert_eq!(pages, 5);
-    assert_eq!(of_the_book, 8);
+    assert_eq!((of_the_book, of_the_digs), (8, 3));
 }
 
 #[test]
 fn the_examples_readmes_show_what_the_command_does() {
     assert!(run_page(&example("base").join("README.md"), "base") >= 8);
     assert!(run_page(&example("book").join("README.md"), "book") >= 8);
+    assert!(run_page(&example("dig").join("README.md"), "dig") >= 8);
 }
 
 /// The README's commands, from the repository's folder: building the tool, one

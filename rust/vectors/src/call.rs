@@ -27,6 +27,8 @@ pub enum Call {
     RawToPushed,
     /// A schema, two paths; a tray.
     PathChain,
+    /// Four schemas, F, G, H, a run over the first; a tray.
+    Query,
 }
 
 /// What stands on a sheet.
@@ -34,12 +36,18 @@ pub enum Call {
 pub enum Kind {
     /// A schema.
     Schema,
-    /// A mapping of the schema at place 1 to the schema at place 2.
-    Mapping,
-    /// An instance of the schema at place 1.
-    InstanceOfS,
-    /// An instance of the schema at place 2.
-    InstanceOfT,
+    /// A mapping between two schemas.
+    Mapping {
+        /// The place of the schema that it maps, from 1.
+        from: usize,
+        /// The place of the schema that it maps to, from 1.
+        to: usize,
+    },
+    /// An instance.
+    Instance {
+        /// The place of its schema, from 1.
+        of: usize,
+    },
     /// A path of the schema at place 1.
     Path,
     /// A list of partners.
@@ -48,7 +56,7 @@ pub enum Kind {
 
 impl Call {
     /// All calls.
-    pub const ALL: [Call; 12] = [
+    pub const ALL: [Call; 13] = [
         Call::CheckSchema,
         Call::CheckMapping,
         Call::CheckInstance,
@@ -61,6 +69,7 @@ impl Call {
         Call::PushedToRaw,
         Call::RawToPushed,
         Call::PathChain,
+        Call::Query,
     ];
 
     /// The call's name in the library.
@@ -78,32 +87,50 @@ impl Call {
             Call::PushedToRaw => "pushed_to_raw",
             Call::RawToPushed => "raw_to_pushed",
             Call::PathChain => "path_chain",
+            Call::Query => "query",
         }
     }
 
     /// The sheets that the call takes, by place: "Sheets are judged in the order
     /// S, T, mapping, instance or instances, path or paths; of transposition's
-    /// two instances the run over S comes first. ... then the matching sheet".
+    /// two instances the run over S comes first. ... then the matching sheet".  Of
+    /// the query, by request C-15, "schemas first, then F, G, H, then the run".
     pub fn sheets(self) -> &'static [Kind] {
         use Kind::*;
+        const F: Kind = Mapping { from: 1, to: 2 };
+        const OF_S: Kind = Instance { of: 1 };
+        const OF_T: Kind = Instance { of: 2 };
         match self {
             Call::CheckSchema => &[Schema],
-            Call::CheckMapping => &[Schema, Schema, Mapping],
-            Call::CheckInstance => &[Schema, InstanceOfS],
+            Call::CheckMapping => &[Schema, Schema, F],
+            Call::CheckInstance => &[Schema, OF_S],
             Call::FirstPath => &[Schema, Path],
             Call::PathChain => &[Schema, Path, Path],
-            Call::Delta => &[Schema, Schema, Mapping, InstanceOfT],
-            Call::Sigma | Call::Pi => &[Schema, Schema, Mapping, InstanceOfS],
+            Call::Delta => &[Schema, Schema, F, OF_T],
+            Call::Sigma | Call::Pi => &[Schema, Schema, F, OF_S],
             Call::CheckPushed | Call::CheckRaw | Call::PushedToRaw | Call::RawToPushed => {
-                &[Schema, Schema, Mapping, InstanceOfS, InstanceOfT, List]
+                &[Schema, Schema, F, OF_S, OF_T, List]
             }
+            Call::Query => &[
+                Schema,
+                Schema,
+                Schema,
+                Schema,
+                Mapping { from: 2, to: 1 },
+                Mapping { from: 2, to: 3 },
+                Mapping { from: 3, to: 4 },
+                OF_S,
+            ],
         }
     }
 
     /// Whether the call writes a result into a tray.
     pub fn has_tray(self) -> bool {
         use Call::*;
-        matches!(self, FirstPath | Delta | Sigma | Pi | PushedToRaw | RawToPushed | PathChain)
+        match self {
+            CheckSchema | CheckMapping | CheckInstance | CheckPushed | CheckRaw => false,
+            FirstPath | Delta | Sigma | Pi | PushedToRaw | RawToPushed | PathChain | Query => true,
+        }
     }
 }
 

@@ -3,6 +3,8 @@
 use crate::base::*;
 use crate::build::*;
 use crate::call::{Call, Case};
+use crate::digs::Dig;
+use crate::queries::base_dig;
 use reference::plain::*;
 
 /// Every call on document 01's base example.
@@ -29,6 +31,7 @@ pub fn base() -> Vec<Case> {
         (Call::CheckRaw, raw.clone()),
         (Call::PushedToRaw, pushed),
         (Call::RawToPushed, raw),
+        (Call::Query, base_dig().sheets()),
     ];
     cases.map(|(call, sheets)| with_room("base", call, sheets)).to_vec()
 }
@@ -81,6 +84,26 @@ pub fn two_copies(t: &Schema) -> (Schema, Mapping) {
     (s, f)
 }
 
+/// The mapping of two copies of a schema to themselves that sends each to the other.
+fn exchanged(copies: &Schema) -> Mapping {
+    let other = |number: usize, count: usize| (number + count / 2) % count;
+    let others = |count: usize| (0..count).map(move |number| other(number, count));
+    Mapping {
+        nodes: others(copies.nodes).collect(),
+        edges: others(copies.edges.len()).map(|edge| vec![edge]).collect(),
+        attributes: others(copies.attributes.len()).collect(),
+    }
+}
+
+/// The query at full size: each schema has two copies of one, 256 paths, and F, G and H
+/// send each copy to the other; Delta, Pi and Sigma have 512 rows each, as the run.
+pub fn full_dig() -> Dig {
+    let (s, _) = two_copies(&half_schema());
+    let [f, g, h] = [(); 3].map(|()| exchanged(&s));
+    let run = rows(&s, 32);
+    Dig { schemas: [(); 4].map(|()| s.clone()), f, g, h, run }
+}
+
 /// An instance with so many rows in each table; twin links are equal.
 pub fn rows(schema: &Schema, each: usize) -> Instance {
     let link = |edge: &Edge| {
@@ -100,7 +123,7 @@ pub fn rows(schema: &Schema, each: usize) -> Instance {
 
 /// Every call on sheets of full size: S with 16 nodes, 32 edges, 16 columns, 32
 /// equations, 256 paths, the run with 512 rows; Sigma and the matching calls
-/// along the mapping of two copies to one.
+/// along the mapping of two copies to one; the query with four such schemas.
 pub fn full() -> Vec<Case> {
     let t = half_schema();
     let (s, f) = two_copies(&t);
@@ -131,6 +154,7 @@ pub fn full() -> Vec<Case> {
         (Call::CheckRaw, sides(&raw)),
         (Call::PushedToRaw, sides(&pushed)),
         (Call::RawToPushed, sides(&raw)),
+        (Call::Query, full_dig().sheets()),
     ];
     cases.map(|(call, sheets)| with_room("full", call, sheets)).to_vec()
 }

@@ -2,11 +2,12 @@
 //! answers to them.
 //!
 //! - [`schemas`], [`instances`], [`mappings`], [`even`] make sheets that are
-//!   accepted, [`world`] sets of them that fit together, [`questions`] two paths of
-//!   a schema in which many are equal;
+//!   accepted, [`world`] sets of them that fit together, [`digs`] those of a query,
+//!   [`questions`] two paths of a schema in which many are equal;
 //! - [`damage`] makes one sheet of such a set one that is sent back;
-//! - [`papers`], [`full`], [`limits`], [`first_paths`], [`chains`], [`puzzles`], [`stream`]
-//!   are the cases, [`record`] the vector file and [`report`] their count by outcome;
+//! - [`papers`], [`full`], [`limits`], [`first_paths`], [`chains`], [`queries`],
+//!   [`query_refusals`], [`puzzles`], [`stream`] are the cases, [`record`] the vector file
+//!   and [`report`] their count by outcome;
 //! - [`path_questions`] are the stored ones about two paths, with their answers;
 //! - [`rules`] makes sheets of a puzzle, [`kinds`] has puzzles of six kinds and any
 //!   size with their solutions, which [`modular`] finds for some, and [`hard`] the
@@ -21,6 +22,7 @@ pub mod build;
 pub mod call;
 pub mod chains;
 pub mod damage;
+pub mod digs;
 pub mod even;
 pub mod first_paths;
 pub mod full;
@@ -33,6 +35,8 @@ pub mod modular;
 pub mod papers;
 pub mod path_questions;
 pub mod puzzles;
+pub mod queries;
+pub mod query_refusals;
 pub mod questions;
 pub mod random;
 pub mod record;

@@ -7,6 +7,7 @@ use crate::call::{Call, Case};
 use crate::chains::chains;
 use crate::first_paths::first_paths;
 use crate::puzzles::complete_graph;
+use crate::queries::queries;
 use crate::questions::Question;
 use reference::plain::*;
 
@@ -26,6 +27,7 @@ pub fn limits() -> Vec<Case> {
     cases.extend(trays());
     cases.extend(first_paths());
     cases.extend(chains());
+    cases.extend(queries());
     cases
 }
 
@@ -43,6 +45,7 @@ pub fn longest() -> Vec<Case> {
     let dangling = Instance { rows: vec![511, 0], ..rows(511) };
     let list = Matching { partners: vec![(0..511).collect(), vec![0]] }.to_sheet();
     let sides = [same.clone(), vec![i.clone(), list]].concat();
+    let dug = [vec![s.clone(); 4], vec![same[2].clone(); 3], vec![i.clone()]].concat();
     let announced = [base_s(), vec![0; 65_528]].concat();
     vec![
         Case::new("the longest instance", Call::CheckInstance, vec![s.clone(), i.clone()]),
@@ -51,6 +54,7 @@ pub fn longest() -> Vec<Case> {
         Case::new("the longest, pulled", Call::Delta, same.clone()).with_tray(51_220),
         Case::new("the longest, pushed", Call::Sigma, same.clone()).with_tray(51_220),
         Case::new("the longest, joined", Call::Pi, same).with_tray(51_220),
+        Case::new("the longest, dug", Call::Query, dug).with_tray(51_220),
         Case::new("the longest, matched", Call::CheckPushed, sides.clone()),
         Case::new("the longest, turned", Call::RawToPushed, sides).with_tray(576),
         Case::new("65,535 bytes", Call::CheckSchema, vec![announced]),

@@ -3,7 +3,7 @@
 //! The vector file is records, one after the other, until it ends.  A record is
 //!
 //! - the call, one byte: its place in [`Call::ALL`] from 0;
-//! - six sheets, each after its 16-bit byte length, most significant byte first;
+//! - eight sheets, each after its 16-bit byte length, most significant byte first;
 //!   those that the call does not take are empty;
 //! - the tray's byte length, 16 bits, most significant byte first; 0 for a call
 //!   without a tray.
@@ -15,13 +15,14 @@
 
 use crate::answer::{reference_outcome, Outcome};
 use crate::call::{Call, Case};
+use crate::digs::fruitful_dig;
 use crate::limits::limits;
 use crate::papers::papers;
 use crate::random::Random;
 use crate::stream::{for_each_refusal, Chance};
 
 /// The sheets of every record.
-pub const SHEETS: usize = 6;
+pub const SHEETS: usize = 8;
 
 /// The cases of the vector file.
 pub fn stored_cases() -> Vec<Case> {
@@ -31,14 +32,22 @@ pub fn stored_cases() -> Vec<Case> {
     let made = twice.into_iter().flatten().map(|expected| expected.case);
     let short = |case: &Case| record(case).len() <= MOST_RECORD_BY_CHANCE;
     let chance = Chance::seeded(2).filter(short).take(CASES_BY_CHANCE);
-    fixed.chain(made).chain(chance).collect()
+    let query = |number: usize| {
+        let dig = fruitful_dig(&mut random, 2 + number % 5);
+        dig.case(format!("query {number}")).with_tray(400 + number)
+    };
+    let queries = (0..).map(query).filter(short).take(QUERIES_BY_CHANCE);
+    fixed.chain(made).chain(chance).chain(queries).collect()
 }
 
 /// So many of the stored cases are made by chance.
-const CASES_BY_CHANCE: usize = 2800;
+const CASES_BY_CHANCE: usize = 3014;
+
+/// So many more are accepted queries, with links and values in their results.
+const QUERIES_BY_CHANCE: usize = 120;
 
 /// None of these is longer than so many bytes.
-const MOST_RECORD_BY_CHANCE: usize = 1000;
+const MOST_RECORD_BY_CHANCE: usize = 1004;
 
 /// A case as a record.
 pub fn record(case: &Case) -> Vec<u8> {

@@ -56,7 +56,7 @@ pub fn is_accepted(schema: &Schema) -> bool {
 
 /// A kind; one in four, and one in 16 of the others, is the clock, the only one whose
 /// smallest value is not 0.
-fn kind(random: &mut Random) -> usize {
+pub fn kind(random: &mut Random) -> usize {
     if random.once_in(4) {
         2
     } else {

@@ -4,12 +4,14 @@
 use crate::answer::result_length;
 use crate::call::{Call, Case};
 use crate::damage::Damage;
+use crate::digs::any_lent_dig;
 use crate::even::{even_mapping, uneven_mapping, Unevenness};
 use crate::instances::instance;
 use crate::limits::{limits, longest};
 use crate::mappings::mapping;
 use crate::papers::papers;
 use crate::puzzles::any_colourings;
+use crate::query_refusals;
 use crate::random::Random;
 use crate::world::{Sheet, World};
 use reference::{migrate, refusal, Refusal};
@@ -27,10 +29,13 @@ const WITH_LIST: [Call; 4] =
     [Call::CheckPushed, Call::CheckRaw, Call::PushedToRaw, Call::RawToPushed];
 
 /// For each call, place and damage a case with that damage; then those for the
-/// numbers of no single sheet.
+/// numbers of no single sheet.  The query has random numbers of its own, so that the
+/// others' cases do not depend on it.
 pub fn for_each_refusal(random: &mut Random) -> Vec<Expected> {
+    let mut of_query = random.clone();
     let mut cases = Vec::new();
     for call in Call::ALL {
+        let random = if call == Call::Query { &mut of_query } else { &mut *random };
         for (place, &kind) in call.sheets().iter().enumerate() {
             for damage in Damage::of(kind) {
                 let case = damaged(random, call, place, damage);
@@ -40,6 +45,9 @@ pub fn for_each_refusal(random: &mut Random) -> Vec<Expected> {
         }
     }
     cases.extend(for_no_single_sheet(random));
+    let of_query = query_refusals::for_no_single_sheet(&mut of_query).into_iter();
+    let expected = |(number, case)| Expected { case, refusal: Refusal { number, place: 0 } };
+    cases.extend(of_query.map(expected));
     cases
 }
 
@@ -62,7 +70,8 @@ fn damaged(random: &mut Random, call: Call, place: usize, damage: Damage) -> Cas
     panic!("{} {name}: no world allows it", call.name());
 }
 
-/// Cases for 12, 13, 15 and 16; those for 14 are among the limits.
+/// Cases for 12, 13, 15 and 16 of every call but the query; those for 14 are among the
+/// limits.
 fn for_no_single_sheet(random: &mut Random) -> Vec<Expected> {
     let mut cases = Vec::new();
     let mut add = |number: u8, case: Case| {
@@ -85,7 +94,7 @@ fn for_no_single_sheet(random: &mut Random) -> Vec<Expected> {
         add(15, Case::new("too many rows pulled back", call, sheets).with_tray(600));
     }
     add(15, too_many_families(random));
-    for call in Call::ALL.into_iter().filter(|call| call.has_tray()) {
+    for call in Call::ALL.into_iter().filter(|call| call.has_tray() && *call != Call::Query) {
         for _ in 0..3 {
             let (case, needed) = accepted(random, call);
             add(16, case.clone().with_tray(needed - 1));
@@ -160,9 +169,10 @@ fn accepted(random: &mut Random, call: Call) -> (Case, usize) {
 
 /// Cases by chance, without end: for each world every call on its sheets as they
 /// are and on damaged ones, for first paths on two, and for each tenth a puzzle for
-/// Pi.
+/// Pi.  The query has sheets, and random numbers, of its own.
 pub struct Chance {
     random: Random,
+    of_query: Random,
     worlds: u64,
     waiting: Vec<Case>,
 }
@@ -170,7 +180,8 @@ pub struct Chance {
 impl Chance {
     /// The cases of a seed.
     pub fn seeded(seed: u64) -> Self {
-        Chance { random: Random::seeded(seed), worlds: 0, waiting: Vec::new() }
+        let [random, of_query] = [seed, !seed].map(Random::seeded);
+        Chance { random, of_query, worlds: 0, waiting: Vec::new() }
     }
 
     /// All cases of the next world.
@@ -185,18 +196,26 @@ impl Chance {
             let tray = some_tray(random, &puzzle);
             cases.push(puzzle.with_tray(tray));
         }
-        for call in Call::ALL {
+        for call in Call::ALL.into_iter().filter(|&call| call != Call::Query) {
             for lent in world.lent_each(random, call) {
-                let name = |what: &str| format!("world {}, {what}", self.worlds);
-                let whole = Case::new(name("as it is"), call, sheets(&lent));
-                let tray = some_tray(random, &whole);
-                cases.push(whole.with_tray(tray));
-                let (what, sheets) = by_chance(random, call, &lent);
-                cases.push(Case::new(name(&what), call, sheets).with_tray(tray));
+                cases.extend(whole_and_damaged(random, self.worlds, call, &lent));
             }
         }
+        let random = &mut self.of_query;
+        let lent = any_lent_dig(random, generators).lent();
+        cases.extend(whole_and_damaged(random, self.worlds, Call::Query, &lent));
         cases
     }
+}
+
+/// A call on sheets of a world as they are, and on damaged ones.
+fn whole_and_damaged(random: &mut Random, world: u64, call: Call, lent: &[Sheet]) -> [Case; 2] {
+    let name = |what: &str| format!("world {world}, {what}");
+    let whole = Case::new(name("as it is"), call, sheets(lent));
+    let tray = some_tray(random, &whole);
+    let (what, sheets) = by_chance(random, call, lent);
+    let damaged = Case::new(name(&what), call, sheets);
+    [whole, damaged].map(|case| case.with_tray(tray))
 }
 
 impl Iterator for Chance {

@@ -2,6 +2,7 @@
 //! a run, a book, and lists of both sides.
 
 use crate::call::{Call, Kind};
+use crate::digs::any_dig;
 use crate::even::{copies, even_mapping};
 use crate::instances::{beside, instance, no_rows, shuffled};
 use crate::mappings::{mapping, Mapped};
@@ -153,7 +154,7 @@ impl World {
     }
 
     /// What a call is lent.  The calls with one schema are lent S or T, those with
-    /// paths mostly another.
+    /// paths mostly another; the query is lent sheets of its own.
     pub fn lent(&self, random: &mut Random, call: Call) -> Vec<Sheet> {
         let World { mapped: Mapped { s, t, f }, run, book, pushed, raw } = self;
         let list = match call {
@@ -169,13 +170,14 @@ impl World {
             }
             Call::FirstPath => self.question(random).lent_in_turn()[0].clone(),
             Call::PathChain => self.question(random).lent(),
+            Call::Query => any_dig(random, 3).lent(),
             _ => {
                 let of_kind = |place: usize| match (place, call.sheets()[place]) {
                     (0, _) => Sheet::Schema(s.clone()),
                     (_, Kind::Schema) => Sheet::Schema(t.clone()),
-                    (_, Kind::Mapping) => Sheet::Mapping(f.clone()),
-                    (_, Kind::InstanceOfS) => Sheet::Instance(run.clone()),
-                    (_, Kind::InstanceOfT) => Sheet::Instance(book.clone()),
+                    (_, Kind::Mapping { .. }) => Sheet::Mapping(f.clone()),
+                    (_, Kind::Instance { of: 1 }) => Sheet::Instance(run.clone()),
+                    (_, Kind::Instance { .. }) => Sheet::Instance(book.clone()),
                     (_, Kind::List) => Sheet::List(list.clone()),
                     (_, Kind::Path) => unreachable!("paths are lent to the calls with one schema"),
                 };

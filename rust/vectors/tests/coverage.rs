@@ -23,9 +23,9 @@ fn numbers_of(kind: Kind) -> &'static [u8] {
         // 7 on are about mappings, instances and lists.
         Kind::Schema => &[1, 2, 3, 4, 5, 6],
         // "an image is missing in T ..", "an equation of S has unequal images"
-        Kind::Mapping => &[1, 2, 7, 8],
+        Kind::Mapping { .. } => &[1, 2, 7, 8],
         // "the sum of the row counts", then rows, values and equations.
-        Kind::InstanceOfS | Kind::InstanceOfT => &[1, 2, 3, 9, 10, 11],
+        Kind::Instance { .. } => &[1, 2, 3, 9, 10, 11],
         // "a schema or path names a missing node or edge"; no count limits a path.
         Kind::Path => &[1, 2, 4],
         // "then the matching sheet (1, 2, 17)"
@@ -34,7 +34,7 @@ fn numbers_of(kind: Kind) -> &'static [u8] {
 }
 
 /// The numbers of no single sheet.  15 does not occur for Sigma: its result has
-/// as many rows as the run.
+/// as many rows as the run.  For the query it is Delta's or Pi's.
 fn numbers_of_no_sheet(call: Call) -> &'static [u8] {
     match call {
         Call::CheckSchema | Call::CheckMapping | Call::CheckInstance => &[],
@@ -44,6 +44,7 @@ fn numbers_of_no_sheet(call: Call) -> &'static [u8] {
         Call::Pi => &[13, 14, 15, 16],
         Call::CheckPushed | Call::CheckRaw => &[12, 15],
         Call::PushedToRaw | Call::RawToPushed => &[12, 15, 16],
+        Call::Query => &[12, 13, 14, 15, 16],
     }
 }
 
@@ -91,7 +92,7 @@ fn every_call_ends_in_every_way_that_it_can_and_in_no_other() {
     for (call, end) in report.met() {
         assert!(can_occur(call).contains(&end), "{} ends {end}", call.name());
     }
-    assert_eq!(Call::ALL.map(|call| can_occur(call).len()).iter().sum::<usize>(), 278);
+    assert_eq!(Call::ALL.map(|call| can_occur(call).len()).iter().sum::<usize>(), 326);
 }
 
 #[test]
@@ -206,6 +207,7 @@ fn limits_are_met_on_both_sides() {
     check(Call::CheckInstance, "the longest, dangling", &[refused(9, 2)]);
     check(Call::Sigma, "the longest, pushed", &[full]);
     check(Call::Pi, "the longest, joined", &[full]);
+    check(Call::Query, "the longest, dug", &[full]);
     check(Call::CheckSchema, "65,535 bytes", &[refused(2, 1)]);
 }
 
@@ -245,15 +247,15 @@ fn every_instance_is_sent_back_for_one_value_too_small_and_for_one_too_large() {
     for (case, outcome) in stored() {
         let Err(Refusal { number: 10, place }) = outcome.answer else { continue };
         let place = usize::from(place) - 1;
-        let over = usize::from(case.call.sheets()[place] == Kind::InstanceOfT);
-        let schema = Schema::accept(&case.sheets[over]).expect("a schema, judged before");
+        let Kind::Instance { of } = case.call.sheets()[place] else { panic!("an instance") };
+        let schema = Schema::accept(&case.sheets[of - 1]).expect("a schema, judged before");
         let side = off_scale(&schema, &case.sheets[place]);
         met.extend(side.map(|side| (case.call, place, side)));
     }
     for call in Call::ALL {
         for (place, kind) in call.sheets().iter().enumerate() {
             for side in [Ordering::Less, Ordering::Greater] {
-                let can_be = matches!(kind, Kind::InstanceOfS | Kind::InstanceOfT);
+                let can_be = matches!(kind, Kind::Instance { .. });
                 let is = met.contains(&(call, place, side));
                 assert_eq!(is, can_be, "{}, place {}: {side:?}", call.name(), place + 1);
             }
@@ -261,7 +263,8 @@ fn every_instance_is_sent_back_for_one_value_too_small_and_for_one_too_large() {
     }
 }
 
-/// The decoded schemas, mapping and first instance of an accepted case.
+/// The decoded schemas, mapping and first instance of an accepted case of a call with
+/// one mapping.
 struct Opened {
     mapped: Mapped,
     instance: Instance,
@@ -271,7 +274,7 @@ struct Opened {
 
 impl Opened {
     fn of(case: &'static Case, outcome: &'static Outcome) -> Option<Self> {
-        if outcome.answer.is_err() || case.sheets.len() < 4 {
+        if outcome.answer.is_err() || !(4..8).contains(&case.sheets.len()) {
             return None;
         }
         let s = Schema::accept(&case.sheets[0]).ok()?;

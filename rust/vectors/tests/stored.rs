@@ -26,9 +26,9 @@ fn the_stored_files_are_todays() {
 fn the_files_are_small_and_many_cases() {
     let (vectors, expected) = (stored("stdin"), stored("stdout"));
     // The program reads no more.
-    assert!(vectors.len() <= 393_216, "{} bytes", vectors.len());
+    assert!(vectors.len() <= 524_288, "{} bytes", vectors.len());
     let lines = expected.iter().filter(|&&byte| byte == b'\n').count();
-    assert!(lines > 4000, "{lines} cases");
+    assert!(lines > 6000, "{lines} cases");
 }
 
 /// The next two bytes as a number, and what follows them.

@@ -2,7 +2,8 @@
 use mathlib.Core.Path.{sym}
 use lib.ListN.{take, replicate}
 use lib.Seq.{length-take-le}
-use Rattle.migration.proofs.Texts.{printed-inside}
+use Rattle.meaning.specs.Program.{push}
+use Rattle.steps.proofs.Texts.{printed-inside}
 use borrow.Author.Needs.{needs}
 use Rattle.push.proofs.main.Statement.{statement}
 use Rattle.push.proofs.main.Tie as tie
@@ -26,10 +27,10 @@ push-requires : tie.Need-push-requires
 push-requires c κs = search needs
 
 array-share-prefix-text : tie.Need-array-share-prefix-text
-array-share-prefix-text c = printed-inside (replicate 159251 0) (take (c .before .before .before .before .before .read-sheets .result) (c .before .before .before .before .before .read-sheets .last .1 .1 .0)) (c .before .push .ensures)
+array-share-prefix-text c = printed-inside (replicate 159251 0) (push (take (c .before .before .before .before .before .read-sheets .result) (c .before .before .before .before .before .read-sheets .last .1 .1 .0))) (c .before .push .ensures)
 
 slice-aggregate-write-all : tie.Need-slice-aggregate-write-all
-slice-aggregate-write-all c = sym (length-take-le (c .before .before .push .result) (c .before .before .push .last .1 .0) (printed-inside (replicate 159251 0) (take (c .before .before .before .before .before .before .read-sheets .result) (c .before .before .before .before .before .before .read-sheets .last .1 .1 .0)) (c .before .before .push .ensures)))
+slice-aggregate-write-all c = sym (length-take-le (c .before .before .push .result) (c .before .before .push .last .1 .0) (printed-inside (replicate 159251 0) (push (take (c .before .before .before .before .before .before .read-sheets .result) (c .before .before .before .before .before .before .read-sheets .last .1 .1 .0))) (c .before .before .push .ensures)))
 
 write-all-requires : tie.Need-write-all-requires
 write-all-requires c κs = search needs

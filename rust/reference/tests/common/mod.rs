@@ -20,6 +20,26 @@ pub fn decoded(schema: &Schema, sheet: &[u8]) -> Instance {
     Instance::accept(schema, sheet).expect("an accepted instance")
 }
 
+/// Sheets, each after its 16-bit byte length.
+pub fn input(sheets: &[Vec<u8>]) -> Vec<u8> {
+    let with_length =
+        |sheet: &Vec<u8>| [(sheet.len() as u16).to_be_bytes().to_vec(), sheet.clone()].concat();
+    sheets.iter().flat_map(with_length).collect()
+}
+
+/// Flips a bit, drops the last byte or adds one.
+pub fn damage(random: &mut Random, sheet: &mut Vec<u8>) {
+    match random.below(6) {
+        0 => sheet.push(random.bits() as u8),
+        1 => drop(sheet.pop()),
+        _ if sheet.is_empty() => {}
+        _ => {
+            let bit = random.below(8 * sheet.len());
+            sheet[bit / 8] ^= 0x80 >> (bit % 8);
+        }
+    }
+}
+
 /// All lists with a partner for each row of `a` in `b`; none if they are more
 /// than `most`.
 pub fn all_lists(a: &Instance, b: &Instance, most: usize) -> Option<Vec<Matching>> {

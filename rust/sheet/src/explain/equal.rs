@@ -23,9 +23,10 @@ pub(super) fn equal_to(schema: &Schema, classes: &Classes, path: &Path, of: &str
 }
 
 /// That a path goes to its image, and the steps by which that is equal to another
-/// path of T.  None where it is that path itself.
+/// path of T, which is called `of`.  None where it is that path itself.
 pub(super) fn goes_to(
     t: &LentSchema,
+    of: &str,
     path: &str,
     image: &Path,
     other: &Path,
@@ -38,7 +39,7 @@ pub(super) fn goes_to(
     }
     let (image, other) = (image.text(schema), other.text(schema));
     let count = counted(steps.len(), "step");
-    let mut notes = vec![format!("{path} goes to {image}, equal to {other} in T by {count}")];
+    let mut notes = vec![format!("{path} goes to {image}, equal to {other} in {of} by {count}")];
     notes.extend(steps.iter().take(MOST_SHOWN).map(|step| format!("  {step}")));
     if steps.len() > MOST_SHOWN {
         notes.push(format!("  and {} more", counted(steps.len() - MOST_SHOWN, "step")));

@@ -22,6 +22,7 @@ pub(super) fn causes(question: &Question) -> Option<Vec<Cause>> {
         lent: question.mapping.as_ref()?,
         s_file: &s.lent.file,
         t_lent: t,
+        names: question.schema_names(),
     };
     let mut causes = Vec::new();
     for node in 0..s_schema.nodes.len() {
@@ -40,6 +41,8 @@ struct Lifting<'a> {
     lent: &'a Lent,
     s_file: &'a str,
     t_lent: &'a LentSchema,
+    /// What S and T are called.
+    names: [&'static str; 2],
 }
 
 impl Lifting<'_> {
@@ -67,11 +70,12 @@ impl Lifting<'_> {
     }
 
     fn no_lift(&self, node: usize, q: &Path) -> Cause {
-        let notes = vec![equal_to(self.t, &self.t_classes, q, "T")];
+        let [_, t] = self.names;
+        let notes = vec![equal_to(self.t, &self.t_classes, q, t)];
         let (name, q) = (self.s.node_name(node), q.text(self.t));
-        let what = format!("no path from {name} goes to {q} of T");
+        let what = format!("no path from {name} goes to {q} of {t}");
         let mend = format!(
-            "add a link to {name} in {} and send it there, or take {q} out of T",
+            "add a link to {name} in {} and send it there, or take {q} out of {t}",
             self.s_file
         );
         Cause::new(self.place(node), what).notes(notes).mend(mend)
@@ -81,14 +85,14 @@ impl Lifting<'_> {
         let parallel = first.end(self.s) == second.end(self.s);
         let notes = self.notes_on_lifts(q, [first, second]);
         let (first, second) = (first.text(self.s), second.text(self.s));
-        let q = q.text(self.t);
-        let what = format!("{first} and {second} both go to {q} of T, but are unequal in S");
+        let (q, [s, t]) = (q.text(self.t), self.names);
+        let what = format!("{first} and {second} both go to {q} of {t}, but are unequal in {s}");
         let mend = match parallel {
             true => format!(
                 "state `equation {first} = {second}` in {}, or send one of them elsewhere",
                 self.s_file
             ),
-            false => "send one of them elsewhere, or take it out of S".to_string(),
+            false => format!("send one of them elsewhere, or take it out of {s}"),
         };
         Cause::new(self.place(node), what).notes(notes).mend(mend)
     }
@@ -96,9 +100,10 @@ impl Lifting<'_> {
     /// By which steps the images of two paths are equal to a path of T, and what
     /// the paths are equal to in S.
     fn notes_on_lifts(&self, q: &Path, lifts: [&Path; 2]) -> Vec<String> {
-        let over = |p: &Path| goes_to(self.t_lent, &p.text(self.s), &self.f.path_image(p)?, q);
+        let [s, t] = self.names;
+        let over = |p: &Path| goes_to(self.t_lent, t, &p.text(self.s), &self.f.path_image(p)?, q);
         let images = lifts.into_iter().filter_map(over).flatten();
-        let equal = lifts.map(|p| equal_to(self.s, &self.s_classes, p, "S"));
+        let equal = lifts.map(|p| equal_to(self.s, &self.s_classes, p, s));
         images.chain(equal).collect()
     }
 

@@ -18,7 +18,10 @@ pub(super) fn causes(question: &Question, number: u8) -> Option<Vec<Cause>> {
         Err(fault) => return Some(vec![fault_cause(lent, &fault, Some("schema"))]),
     };
     match number {
-        7 => Some(Misfit { s, t, mapping: &mapping, lent }.causes()),
+        7 => {
+            let [_, t_name] = question.schema_names();
+            Some(Misfit { s, t, mapping: &mapping, lent, t_name }.causes())
+        }
         8 => broken_rules(question, &mapping),
         _ => None,
     }
@@ -29,6 +32,8 @@ struct Misfit<'a> {
     t: &'a Schema,
     mapping: &'a Mapping,
     lent: &'a Lent,
+    /// What T is called.
+    t_name: &'static str,
 }
 
 impl Misfit<'_> {
@@ -50,8 +55,9 @@ impl Misfit<'_> {
         }
         let place = self.lent.place(|lines| lines.nodes.get(node));
         let (name, last) = (self.s.node_name(node), self.t.nodes.len().saturating_sub(1));
-        let what = format!("{name} goes to node {image}, but the nodes of T are 0 to {last}");
-        Some(Cause::new(place, what).mend(format!("send {name} to a node of T")))
+        let t = self.t_name;
+        let what = format!("{name} goes to node {image}, but the nodes of {t} are 0 to {last}");
+        Some(Cause::new(place, what).mend(format!("send {name} to a node of {t}")))
     }
 
     fn link(&self, link: usize) -> Option<Cause> {
@@ -68,7 +74,7 @@ impl Misfit<'_> {
         let what = match end {
             None => match super::path::fault_of(self.t, &image) {
                 Some(fault) => format!("{name}: {fault}"),
-                None => format!("{name} goes to {text}, which is no path of T"),
+                None => format!("{name} goes to {text}, which is no path of {}", self.t_name),
             },
             Some(end) => format!(
                 "{name} goes to {text}, which ends at {}, but {} goes to {}",
@@ -91,8 +97,8 @@ impl Misfit<'_> {
         let image_name = self.t.column_name(image);
         let what = match self.t.columns.get(image) {
             None => {
-                let count = self.t.columns.len();
-                format!("{name} goes to column {image}, but T has {count} columns")
+                let (t, count) = (self.t_name, self.t.columns.len());
+                format!("{name} goes to column {image}, but {t} has {count} columns")
             }
             Some(there) if there.kind != here.kind => {
                 let other = kinds::name_of(there.kind);
@@ -120,6 +126,7 @@ fn broken_rules(question: &Question, mapping: &Mapping) -> Option<Vec<Cause>> {
     let (s, t) = (question.s.as_ref()?, question.t.as_ref()?);
     let (s_schema, t_schema) = (question.s_schema()?, question.t_schema()?);
     let t_classes = Classes::of(t_schema, &t.lent.sheet)?;
+    let [_, of] = question.schema_names();
     let mut causes = Vec::new();
     for (number, equation) in s_schema.equations.iter().enumerate() {
         let images = [&equation.left, &equation.right].map(|side| mapping.path_image(side));
@@ -127,12 +134,13 @@ fn broken_rules(question: &Question, mapping: &Mapping) -> Option<Vec<Cause>> {
         if t_classes.first(&left) == t_classes.first(&right) {
             continue;
         }
-        let notes = [&left, &right].map(|image| equal_to(t_schema, &t_classes, image, "T"));
+        let notes = [&left, &right].map(|image| equal_to(t_schema, &t_classes, image, of));
         let text = |path: &Path| path.text(t_schema);
         let (left, right) = (text(&left), text(&right));
         let place = s.lent.place(|lines| lines.equations.get(number));
         let equation = s_schema.equation_text(equation);
-        let what = format!("equation {equation} goes to {left} = {right}, which are unequal in T");
+        let what =
+            format!("equation {equation} goes to {left} = {right}, which are unequal in {of}");
         let mend = format!(
             "send the links to other paths, or state `equation {left} = {right}` in {}",
             t.lent.file

@@ -15,6 +15,7 @@ mod schema;
 
 use crate::bits::{counted, Fault};
 use crate::lent::Lent;
+use crate::query::Stage;
 use crate::question::{Answer, Call, Question, Role};
 use migration::Refusal;
 use std::fmt;
@@ -57,6 +58,8 @@ pub struct Explanation {
     pub call: Call,
     /// What the refused sheet is to the call, and its file; none at place 0.
     pub sheet: Option<(&'static str, String)>,
+    /// The stage of a query that is refused at place 0; none of its tray.
+    pub stage: Option<Stage>,
     /// The causes that were found, the first one first.
     pub causes: Vec<Cause>,
 }
@@ -88,6 +91,9 @@ impl fmt::Display for Explanation {
             }
             None => write!(out, "{call} refused, place {}", refusal.place)?,
         }
+        if let Some(stage) = self.stage {
+            write!(out, " ({stage})")?;
+        }
         writeln!(out, ": {}", refusal.sentence())?;
         match self.causes.first().and_then(|cause| cause.mend.as_ref()) {
             Some(mend) => writeln!(out, "mend: {mend}"),
@@ -104,19 +110,28 @@ impl Question {
         let file = role.and_then(|role| self.lent(role)).map(|lent| lent.file.clone());
         let name = role.map(|role| role_name(self.call, role));
         let sheet = name.zip(file);
-        let causes = match role {
-            Some(role) => self.causes_at(role, refusal.number),
-            None => self.causes_of_all(refusal.number),
+        let stage = match role {
+            Some(_) => None,
+            None => self.refused_stage(refusal.number),
         };
-        Explanation { refusal, call: self.call, sheet, causes: causes.unwrap_or_default() }
+        let causes = match (role, stage) {
+            (Some(role), _) => self.causes_at(role, refusal.number),
+            (None, Some(stage)) => self.at_stage(stage).causes_of_all(refusal.number),
+            (None, None) => self.causes_of_all(refusal.number),
+        };
+        let causes = causes.unwrap_or_default();
+        Explanation { refusal, call: self.call, sheet, stage, causes }
     }
 
     fn causes_at(&self, role: Role, number: u8) -> Option<Vec<Cause>> {
         Some(match role {
-            Role::S => schema::causes(self.s.as_ref()?, number),
-            Role::T => schema::causes(self.t.as_ref()?, number),
+            Role::S | Role::T | Role::Schema(_) => schema::causes(self.lent_schema(role)?, number),
             Role::Mapping => mapping::causes(self, number)?,
-            Role::Run => instance::causes(self.run.as_ref()?, self.s.as_ref()?, number)?,
+            Role::Along(stage) => mapping::causes(&self.at_stage(stage), number)?,
+            Role::Run => {
+                let over = self.lent_schema(self.call.run_schema())?;
+                instance::causes(self.run.as_ref()?, over, number)?
+            }
             Role::Book => instance::causes(self.book.as_ref()?, self.t.as_ref()?, number)?,
             Role::P => path::causes(self.p.as_ref()?, self.s_schema()?),
             Role::Q => path::causes(self.q.as_ref()?, self.s_schema()?),
@@ -142,12 +157,7 @@ impl Question {
         let (needed, lent) = (sheet.len(), self.tray?);
         let needed = counted(needed, "byte");
         let what = format!("the result needs {needed}, but {lent} were lent");
-        let most = match self.call {
-            Call::PushedToRaw | Call::RawToPushed => migration::MOST_MATCHING_BYTES,
-            Call::FirstPath => migration::MOST_PATH_BYTES,
-            Call::PathChain => migration::MOST_CHAIN_BYTES,
-            _ => migration::MOST_INSTANCE_BYTES,
-        };
+        let most = self.call.most_bytes();
         let mend = format!("lend {needed}; {most} hold every result");
         Some(vec![Cause::new("the tray", what).mend(mend)])
     }
@@ -167,6 +177,13 @@ fn role_name(call: Call, role: Role) -> &'static str {
         (_, Role::P) => "the first path",
         (_, Role::Q) => "the second path",
         (_, Role::List) => "the list",
+        (_, Role::Schema(1)) => "schema S1",
+        (_, Role::Schema(2)) => "schema S2",
+        (_, Role::Schema(3)) => "schema S3",
+        (_, Role::Schema(_)) => "schema S4",
+        (_, Role::Along(Stage::Project)) => "mapping F",
+        (_, Role::Along(Stage::Join)) => "mapping G",
+        (_, Role::Along(Stage::Unite)) => "mapping H",
     }
 }
 

@@ -14,13 +14,15 @@ const MOST_COMPONENTS: usize = 64;
 pub(super) fn unpaired(question: &Question) -> Option<Vec<Cause>> {
     let (s, t) = (question.s_schema()?, question.t_schema()?);
     let (mapping, lent) = (question.mapping_decoded()?, question.mapping.as_ref()?);
+    let [s_name, t_name] = question.schema_names();
     let mut causes = Vec::new();
     for column in 0..t.columns.len() {
         let wanted = t.column_name(column);
         match mapping.columns_over(column).as_slice() {
             [] => {
-                let what = format!("no column of S goes to {wanted}");
-                let mend = format!("send a column of S to {wanted}, or leave it out of T");
+                let what = format!("no column of {s_name} goes to {wanted}");
+                let mend =
+                    format!("send a column of {s_name} to {wanted}, or leave it out of {t_name}");
                 causes.push(Cause::new(&lent.file, what).mend(mend));
             }
             [_] => {}
@@ -42,13 +44,17 @@ pub(super) fn wide(question: &Question) -> Option<Vec<Cause>> {
     let mapping = question.mapping_decoded()?;
     let classes = Classes::of(t, &question.t.as_ref()?.lent.sheet)?;
     let file = &question.mapping.as_ref()?.file;
+    let [s_name, t_name] = question.schema_names();
     let mut causes = Vec::new();
     for node in 0..t.nodes.len() {
         let count = components(t, &mapping, &classes, node).len();
         if count > MOST_COMPONENTS {
             let name = t.node_name(node);
             let what = format!("{name} has {count} components, at most {MOST_COMPONENTS}");
-            let mend = "send fewer nodes of S to where many paths of T lead, or equate paths of T";
+            let mend = format!(
+                "send fewer nodes of {s_name} to where many paths of {t_name} lead, \
+                 or equate paths of {t_name}"
+            );
             causes.push(Cause::new(file, what).mend(mend));
         }
     }
@@ -68,5 +74,26 @@ pub(super) fn components<'a>(
         let paths = classes.firsts_from(node).filter(|path| path.end(t) == Some(image));
         found.extend(paths.map(|path| (c, path)));
     }
+    found
+}
+
+/// The components at a node of T that no link of S leads to from another one: their
+/// rows are chosen, and the rows of all others follow from them.
+pub(super) fn chosen_components<'a>(
+    [s, t]: [&Schema; 2],
+    mapping: &Mapping,
+    classes: &'a Classes,
+    node: usize,
+) -> Vec<(usize, &'a Path)> {
+    let mut found = components(t, mapping, classes, node);
+    let mut follow = Vec::new();
+    for &(c, path) in &found {
+        for link in s.links_from(c) {
+            let image = mapping.links.get(link).map_or(&[][..], Vec::as_slice);
+            let onward = image.iter().fold(path.clone(), |path, &edge| path.along(edge));
+            follow.extend(classes.first(&onward).map(|first| (s.links[link].target, first)));
+        }
+    }
+    found.retain(|component| !follow.contains(component));
     found
 }

@@ -160,8 +160,15 @@ impl Ran {
     }
 }
 
-/// S, T and mapping of both examples.
+/// S, T and mapping of the base and book examples.
 pub const MAPPED: &str = "vendor.schema operator.schema vendor-to-operator.mapping";
+
+/// The four schemas of the dig example.
+pub const DIG_SCHEMAS: &str = "vendor.schema needed.schema joined.schema digs.schema";
+
+/// F, G and H of the dig example.
+pub const DIG_MAPPINGS: &str =
+    "needed-to-vendor.mapping needed-to-joined.mapping joined-to-digs.mapping";
 
 /// Document 01's case 7, with a link before a and one after f.
 pub const RULED: [&str; 15] = [

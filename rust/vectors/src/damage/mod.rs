@@ -10,7 +10,7 @@ mod schema;
 use crate::call::{Call, Kind};
 use crate::random::Random;
 use crate::world::Sheet;
-use reference::plain::{Matching, Schema};
+use reference::plain::{Mapping, Matching, Schema};
 
 /// A way to damage a sheet.
 #[derive(Debug, Clone, Copy, PartialEq, Eq, PartialOrd, Ord)]
@@ -60,10 +60,8 @@ impl Damage {
     pub fn of(kind: Kind) -> Vec<Damage> {
         let own: Vec<Damage> = match kind {
             Kind::Schema => SchemaDamage::ALL.map(Damage::Schema).to_vec(),
-            Kind::Mapping => MappingDamage::ALL.map(Damage::Mapping).to_vec(),
-            Kind::InstanceOfS | Kind::InstanceOfT => {
-                InstanceDamage::ALL.map(Damage::Instance).to_vec()
-            }
+            Kind::Mapping { .. } => MappingDamage::ALL.map(Damage::Mapping).to_vec(),
+            Kind::Instance { .. } => InstanceDamage::ALL.map(Damage::Instance).to_vec(),
             Kind::Path => PathDamage::ALL.map(Damage::Path).to_vec(),
             Kind::List => ListDamage::ALL.map(Damage::List).to_vec(),
         };
@@ -93,27 +91,32 @@ impl Damage {
         place: usize,
     ) -> Option<Vec<Vec<u8>>> {
         let mut sheets: Vec<Vec<u8>> = lent.iter().map(Sheet::bytes).collect();
-        let schema = |place: usize| match &lent[place] {
+        let schema = |place: usize| match &lent[place - 1] {
             Sheet::Schema(schema) => schema,
             _ => unreachable!("a schema stands there"),
         };
-        let damaged = match (self, &lent[place]) {
-            (Damage::Schema(damage), Sheet::Schema(schema)) => damage.done_to(random, schema)?,
-            (Damage::Mapping(damage), Sheet::Mapping(f)) => {
-                let done = damage.done_to(random, schema(0), schema(1), f)?;
-                sheets[0] = done.s.to_sheet();
-                sheets[1] = done.t.to_sheet();
+        let kinds = call.sheets();
+        let damaged = match (self, &lent[place], kinds[place]) {
+            (Damage::Schema(damage), Sheet::Schema(schema), _) => damage.done_to(random, schema)?,
+            (Damage::Mapping(damage), Sheet::Mapping(f), Kind::Mapping { from, to }) => {
+                let done = damage.done_to(random, schema(from), schema(to), f)?;
+                sheets[from - 1] = done.s.to_sheet();
+                sheets[to - 1] = done.t.to_sheet();
+                if !mappings_are_accepted(&kinds[..place], &sheets) {
+                    return None;
+                }
                 done.f.to_sheet()
             }
-            (Damage::Instance(damage), Sheet::Instance(instance)) => {
-                let of = if call.sheets()[place] == Kind::InstanceOfT { 1 } else { 0 };
+            (Damage::Instance(damage), Sheet::Instance(instance), Kind::Instance { of }) => {
                 damage.done_to(random, schema(of), instance)?
             }
-            (Damage::Path(damage), Sheet::Path(path)) => damage.done_to(random, schema(0), path)?,
-            (Damage::List(damage), Sheet::List(list)) => {
+            (Damage::Path(damage), Sheet::Path(path), _) => {
+                damage.done_to(random, schema(1), path)?
+            }
+            (Damage::List(damage), Sheet::List(list), _) => {
                 damage.done_to(random, &list::Sides::of(call, lent)?, list)?
             }
-            (damage, sheet) => {
+            (damage, sheet, _) => {
                 damage.done_to_any(random, sheet.bytes(), filling_bits(lent, place))?
             }
         };
@@ -149,6 +152,17 @@ impl Damage {
             _ => unreachable!("damage to sheets of another kind"),
         }
     }
+}
+
+/// Whether the mappings among the first sheets, of these kinds, are accepted between
+/// the schemas of all: another equation can break the rules of an earlier mapping.
+fn mappings_are_accepted(kinds: &[Kind], sheets: &[Vec<u8>]) -> bool {
+    kinds.iter().zip(sheets).all(|(kind, sheet)| {
+        let Kind::Mapping { from, to } = *kind else { return true };
+        let schema = |place: usize| Schema::accept(&sheets[place - 1]);
+        let (Ok(s), Ok(t)) = (schema(from), schema(to)) else { return false };
+        Mapping::accept(&s, &t, sheet).is_ok()
+    })
 }
 
 /// The number of filling bits of an accepted sheet.

@@ -1,7 +1,7 @@
 -- `migration::checks::check_instance` meets its contract.
 use mathlib.Core.Path.{ap, _∙_}
-use Rattle.migration.specs.declared.Refusal.{Refusal}
-use Rattle.migration.specs.Answers.{outcomeOf}
+use Rattle.steps.specs.declared.Refusal.{Refusal}
+use Rattle.steps.specs.Answers.{outcomeOf}
 use Rattle.migration.proofs.Checking.{instance-checked}
 use borrow.Author.Needs.{needs}
 use Rattle.migration.proofs.checks.check_instance.Statement.{statement}

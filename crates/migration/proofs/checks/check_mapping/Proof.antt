@@ -4,10 +4,10 @@ use Rattle.meaning.specs.Calls.{Migration}
 use Rattle.schema.specs.Decoded.{schemaOf}
 use Rattle.mapping.specs.Decoded.{mappingOf}
 use Rattle.mapping.proofs.Sides.{numbers}
-use Rattle.migration.specs.declared.Refusal.{Refusal}
-use Rattle.migration.specs.Answers.{firstRefusal, outcomeOf}
-use Rattle.migration.proofs.Refusing.{yields}
-use Rattle.migration.proofs.Checking.{mapping-opened}
+use Rattle.steps.specs.declared.Refusal.{Refusal}
+use Rattle.steps.specs.Answers.{firstRefusal, outcomeOf}
+use Rattle.steps.proofs.Refusing.{yields}
+use Rattle.steps.proofs.Opening.{mapping-opened}
 use borrow.Author.Needs.{needs}
 use Rattle.migration.proofs.checks.check_mapping.Statement.{statement}
 use Rattle.migration.proofs.checks.check_mapping.Tie as tie

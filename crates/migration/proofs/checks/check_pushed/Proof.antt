@@ -1,7 +1,7 @@
 -- `migration::checks::check_pushed` meets its contract.
 use mathlib.Core.Path.{_∙_}
 use Rattle.migration.specs.Turnable.{turnableOf}
-use Rattle.migration.proofs.Refusing.{yields}
+use Rattle.steps.proofs.Refusing.{yields}
 use Rattle.migration.proofs.Grouping.{pushed-checked}
 use borrow.Author.Needs.{needs}
 use Rattle.migration.proofs.checks.check_pushed.Statement.{statement}

@@ -1,7 +1,7 @@
 -- `migration::checks::check_raw` meets its contract.
 use mathlib.Core.Path.{_∙_}
 use Rattle.migration.specs.Turnable.{turnableOf}
-use Rattle.migration.proofs.Refusing.{yields}
+use Rattle.steps.proofs.Refusing.{yields}
 use Rattle.migration.proofs.Grouping.{raw-checked}
 use borrow.Author.Needs.{needs}
 use Rattle.migration.proofs.checks.check_raw.Statement.{statement}

@@ -5,9 +5,10 @@ use mathlib.Core.List.{List}
 use Rattle.meaning.specs.PathChain.{firstChain}
 use Rattle.meaning.specs.Calls.{Outcome, explanation, pathChain, inTray}
 use Rattle.schema.specs.Decoded.{schemaOf, pathOf}
-use Rattle.migration.specs.declared.Refusal.{Refusal}
-use Rattle.migration.specs.Answers.{explained, outcomeOf}
-use Rattle.migration.proofs.Refusing.{no-refusal}
+use Rattle.steps.specs.declared.Refusal.{Refusal}
+use Rattle.migration.specs.Answers.{explained}
+use Rattle.steps.specs.Answers.{outcomeOf}
+use Rattle.steps.proofs.Refusing.{no-refusal}
 use Rattle.migration.proofs.Checking.{paths-judged, paths-sound}
 use Rattle.migration.proofs.Trays.{explained-refused}
 use borrow.Author.Needs.{needs}

@@ -1,7 +1,8 @@
 -- `migration::exports::written_number` meets its contract.
 use mathlib.Core.Path.{sym, ap, _∙_}
-use Rattle.migration.specs.declared.Written.{Written}
-use Rattle.migration.specs.Answers.{writtenOf, encoded}
+use Rattle.steps.specs.declared.Written.{Written}
+use Rattle.steps.specs.Answers.{writtenOf}
+use Rattle.migration.specs.Answers.{encoded}
 use borrow.Author.Needs.{needs}
 use Rattle.migration.proofs.exports.written_number.Statement.{statement}
 use Rattle.migration.proofs.exports.written_number.Tie as tie

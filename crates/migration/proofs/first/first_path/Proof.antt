@@ -6,11 +6,11 @@ use Rattle.meaning.specs.PathEquality.{firstPath}
 use Rattle.meaning.specs.Formats.{pathSheet}
 use Rattle.meaning.specs.Calls.{pathQuestion, inTray}
 use Rattle.schema.specs.Decoded.{schemaOf, pathOf}
-use Rattle.migration.specs.declared.Refusal.{Refusal}
-use Rattle.migration.specs.Answers.{outcomeOf}
-use Rattle.migration.proofs.Refusing.{no-refusal}
+use Rattle.steps.specs.declared.Refusal.{Refusal}
+use Rattle.steps.specs.Answers.{outcomeOf}
+use Rattle.steps.proofs.Refusing.{no-refusal}
 use Rattle.migration.proofs.Checking.{path-judged, path-sound}
-use Rattle.migration.proofs.Trays.{outcome-refused}
+use Rattle.steps.proofs.Trays.{outcome-refused}
 use borrow.Author.Needs.{needs}
 use Rattle.migration.proofs.first.first_path.Statement.{statement}
 use Rattle.migration.proofs.first.first_path.Tie as tie

@@ -3,10 +3,11 @@ use mathlib.Core.Path.{_≡_, _∙_}
 use native.Mathlib.Omega.{arith}
 use Rattle.pi.specs.Tables.{PiReady}
 use Rattle.pi.proofs.Tables.{lists-pi}
-use Rattle.migration.specs.Opened.{openedOf}
-use Rattle.migration.specs.Runs.{runInput, RunSays}
+use Rattle.steps.specs.Opened.{openedOf}
+use Rattle.steps.specs.Runs.{runInput, RunSays}
 use Rattle.migration.proofs.Opening.{run-open}
-use Rattle.migration.proofs.Joining.{mapped, joinable, sheets-stopped, tests-stopped, tests-joined}
+use Rattle.steps.proofs.Opening.{mapped}
+use Rattle.migration.proofs.Joining.{joinable, sheets-stopped, tests-stopped, tests-joined}
 use borrow.Author.Needs.{needs}
 use Rattle.migration.proofs.joins.join_run.Statement.{statement}
 use Rattle.migration.proofs.joins.join_run.Tie as tie

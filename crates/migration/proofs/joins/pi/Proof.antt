@@ -1,7 +1,7 @@
 -- `migration::joins::pi` meets its contract.
 use mathlib.Core.Path.{sym, ap, _∙_}
 use Rattle.meaning.specs.Calls.{Outcome, Migrated, sheetOf, inTray}
-use Rattle.migration.proofs.Opening.{is-opened}
+use Rattle.steps.proofs.Opening.{is-opened}
 use Rattle.migration.proofs.Joining.{pi-told}
 use borrow.Author.Needs.{needs}
 use Rattle.migration.proofs.joins.pi.Statement.{statement}

@@ -2,7 +2,7 @@
 use mathlib.Core.Path.{sym, ap, _∙_}
 use Rattle.meaning.specs.Calls.{Outcome, Migrated, sheetOf, inTray}
 use Rattle.migration.specs.Joins.{joinedOf}
-use Rattle.migration.proofs.Refusing.{some-refusal}
+use Rattle.steps.proofs.Refusing.{some-refusal}
 use borrow.Author.Needs.{needs}
 use Rattle.migration.proofs.joins.write_joined.Statement.{statement}
 use Rattle.migration.proofs.joins.write_joined.Tie as tie

@@ -5,7 +5,7 @@ use Rattle.meaning.specs.Formats.{Instance}
 use Rattle.meaning.specs.Calls.{judgeRaw}
 use Rattle.schema.specs.Decoded.{frontOf}
 use Rattle.matching.specs.Compared.{partnersOf}
-use Rattle.migration.proofs.Migrating.{few-rows}
+use Rattle.steps.proofs.Sizes.{few-rows}
 use Rattle.migration.proofs.Judging.{raw-told, overfull-told}
 use borrow.Author.Needs.{needs}
 use Rattle.migration.proofs.matchings.judge_raw.Statement.{statement}

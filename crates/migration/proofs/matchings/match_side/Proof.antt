@@ -1,6 +1,6 @@
 -- `migration::matchings::match_side` meets its contract.
 use mathlib.Core.Path.{sym, _∙_}
-use Rattle.migration.proofs.Opening.{is-opened}
+use Rattle.steps.proofs.Opening.{is-opened}
 use Rattle.migration.proofs.Grouping.{side-told}
 use borrow.Author.Needs.{needs}
 use Rattle.migration.proofs.matchings.match_side.Statement.{statement}

@@ -1,8 +1,8 @@
 -- `migration::migrate::delta` meets its contract.
 use mathlib.Core.Path.{sym, ap, _∙_}
 use Rattle.meaning.specs.Calls.{Outcome, Migration, sheetOf, inTray}
-use Rattle.migration.specs.Migrated.{pulledBook}
-use Rattle.migration.proofs.Opening.{is-opened}
+use Rattle.migration.specs.Books.{pulledBook}
+use Rattle.steps.proofs.Opening.{is-opened}
 use borrow.Author.Needs.{needs}
 use Rattle.migration.proofs.migrate.delta.Statement.{statement}
 use Rattle.migration.proofs.migrate.delta.Tie as tie

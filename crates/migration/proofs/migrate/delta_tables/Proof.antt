@@ -1,8 +1,8 @@
 -- `migration::migrate::delta_tables` meets its contract.
 use mathlib.Core.Path.{sym, ap, _∙_}
 use native.Mathlib.Omega.{arith}
-use Rattle.migration.specs.declared.Refusal.{Refusal}
-use Rattle.migration.proofs.Refusing.{refusal, none-first, none-next}
+use Rattle.steps.specs.declared.Refusal.{Refusal}
+use Rattle.steps.proofs.Refusing.{refusal, none-first, none-next}
 use Rattle.migration.proofs.Migrating.{delta-made, delta-stopped}
 use borrow.Author.Needs.{needs}
 use Rattle.migration.proofs.migrate.delta_tables.Statement.{statement}

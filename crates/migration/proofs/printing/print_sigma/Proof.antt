@@ -1,7 +1,9 @@
 -- `migration::printing::print_sigma` meets its contract.
-use Rattle.migration.proofs.Opening.{is-opened}
+use mathlib.Core.Path.{sym, _∙_}
+use Rattle.agreement.proofs.Agrees.{sigma-agrees}
+use Rattle.steps.proofs.Opening.{is-opened}
 use Rattle.migration.proofs.Pushing.{sigma-told}
-use Rattle.migration.proofs.Texts.{printable, prints}
+use Rattle.steps.proofs.Texts.{printable, prints}
 use borrow.Author.Needs.{needs}
 use Rattle.migration.proofs.printing.print_sigma.Statement.{statement}
 use Rattle.migration.proofs.printing.print_sigma.Tie as tie
@@ -14,7 +16,8 @@ print-requires c κs =
     let z = c .before .before .before .before .before .before .before .before .before .before .before .before .before .before .before .before .before .before .before .before .before .before .pre in
     let F = z .0 in
     let i = c .before .before .before .before .before .before .before .before .before .before .before .before .before .before .before .before .before .before .before .before .before .before .args .i .now in
-    (printable (c .before .before .before .before .before .before .before .before .before .before .before .sigma-tables .ensures) (F .s) (F .t) (F .f) i (sigma-told (F .s) (F .t) (F .f) i (F .opens)), z .3)
+    let told = sigma-told (F .s) (F .t) (F .f) i (F .opens) in
+    (printable (c .before .before .before .before .before .before .before .before .before .before .before .sigma-tables .ensures) (λ N e. let a = sigma-agrees (F .s) (F .t) (F .f) i (sym told ∙ e) in (a .T, a .lendable)), z .3)
 
 same-length : tie.Need-same-length
 same-length c = search needs

@@ -1,8 +1,8 @@
 -- `migration::sides::open_sides` meets its contract.
 use mathlib.Core.Path.{_≡_, ap, _∙_}
-use Rattle.migration.specs.declared.Refusal.{Refusal}
-use Rattle.migration.specs.Answers.{orNext}
-use Rattle.migration.proofs.Refusing.{refusal}
+use Rattle.steps.specs.declared.Refusal.{Refusal}
+use Rattle.steps.specs.Answers.{orNext}
+use Rattle.steps.proofs.Refusing.{refusal}
 use Rattle.migration.proofs.Opening.{sides-ready, sides-open, sides-stopped}
 use borrow.Author.Needs.{needs}
 use Rattle.migration.proofs.sides.open_sides.Statement.{statement}

@@ -4,7 +4,7 @@ use Rattle.meaning.specs.Formats.{matchingSheet}
 use Rattle.meaning.specs.Calls.{inTray}
 use Rattle.migration.specs.declared.matchings.Side.the-variants as side
 use Rattle.migration.specs.Turnable.{turnableOf, turnedList}
-use Rattle.migration.proofs.Refusing.{yields}
+use Rattle.steps.proofs.Refusing.{yields}
 use Rattle.migration.proofs.Grouping.{pushed-turned}
 use borrow.Author.Needs.{needs}
 use Rattle.migration.proofs.turnings.pushed_to_raw.Statement.{statement}

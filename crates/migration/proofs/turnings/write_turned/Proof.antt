@@ -7,7 +7,7 @@ use Rattle.meaning.specs.Formats.{matchingSheet}
 use Rattle.meaning.specs.Calls.{written}
 use Rattle.schema.specs.Decoded.{frontOf}
 use Rattle.migration.specs.Turnable.{turnableOf, turnedList}
-use Rattle.migration.proofs.Trays.{outcome-written, outcome-refused}
+use Rattle.steps.proofs.Trays.{outcome-written, outcome-refused}
 use borrow.Author.Needs.{needs}
 use Rattle.migration.proofs.turnings.write_turned.Statement.{statement}
 use Rattle.migration.proofs.turnings.write_turned.Tie as tie

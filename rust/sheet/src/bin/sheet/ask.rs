@@ -88,20 +88,17 @@ fn lend(
     inputs: &mut Inputs,
 ) -> Result<(), Failure> {
     match role {
-        Role::S => {
-            question.s = Some(inputs.schema(word)?);
-            schema(question, Role::S)?;
-        }
-        Role::T => {
-            question.t = Some(inputs.schema(word)?);
-            schema(question, Role::T)?;
+        Role::S | Role::T | Role::Schema(_) => {
+            question.lend_schema(role, inputs.schema(word)?);
+            schema(question, role)?;
         }
         Role::Mapping => {
             let (s, t) = (schema(question, Role::S)?, schema(question, Role::T)?);
             question.mapping = Some(inputs.mapping(word, s, t)?);
         }
         Role::Run => {
-            question.run = Some(inputs.instance(word, schema(question, Role::S)?)?);
+            let over = schema(question, question.call.run_schema())?;
+            question.run = Some(inputs.instance(word, over)?);
         }
         Role::Book => {
             question.book = Some(inputs.instance(word, schema(question, Role::T)?)?);
@@ -116,6 +113,11 @@ fn lend(
             let over = if question.call.is_pushed() { Role::T } else { Role::S };
             question.list = Some(inputs.matching(word, schema(question, over)?)?);
         }
+        Role::Along(stage) => {
+            let [from, to] = stage.schemas().map(Role::Schema);
+            let (from, to) = (schema(question, from)?, schema(question, to)?);
+            question.route.mappings[stage as usize] = Some(inputs.mapping(word, from, to)?);
+        }
     }
     Ok(())
 }
@@ -123,11 +125,7 @@ fn lend(
 /// The schema with a role; where its sheet cannot be decoded, the call's
 /// refusal of it.
 pub fn schema(question: &Question, role: Role) -> Result<&Schema, Failure> {
-    let lent = match role {
-        Role::T => &question.t,
-        _ => &question.s,
-    };
-    match lent.as_ref().map(|lent| &lent.schema) {
+    match question.lent_schema(role).map(|lent| &lent.schema) {
         Some(Ok(schema)) => Ok(schema),
         Some(Err(fault)) => Err(match question.ask() {
             Err(refusal) => refused(question, refusal),
@@ -149,6 +147,8 @@ fn word_for(call: Call, role: Role) -> &'static str {
         (_, Role::Book) => "BOOK",
         (_, Role::P | Role::Q) => "PATH",
         (_, Role::List) => "LIST",
+        (_, Role::Schema(number)) => ["S1", "S2", "S3", "S4"][number - 1],
+        (_, Role::Along(stage)) => stage.mapping_name(),
     }
 }
 

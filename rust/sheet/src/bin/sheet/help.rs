@@ -26,6 +26,7 @@ fn text(command: &str) -> Option<&'static str> {
         "delta" => DELTA,
         "sigma" => SIGMA,
         "pi" => PI,
+        "query" => QUERY,
         "match" => MATCH,
         "turn" => TURN,
         "first-path" => FIRST_PATH,
@@ -47,6 +48,7 @@ sheet: inspection run records from text and CSV to the proved calls and back
   sheet delta S T MAPPING BOOK                         pull a book back to S
   sheet sigma S T MAPPING RUN                          push a run, tables joined
   sheet pi S T MAPPING RUN                             push a run, rows fitted
+  sheet query S1 S2 S3 S4 F G H RUN                    project, join, unite
   sheet match pushed|raw S T MAPPING RUN BOOK LIST     check a list of partners
   sheet turn pushed-to-raw|raw-to-pushed S T MAPPING RUN BOOK LIST
                                                        turn it to the other side
@@ -157,6 +159,27 @@ for each way from there to a table of S, such that the links agree.
   --tray BYTES  lend the call a tray of BYTES (refusal 16 if it is too small)
 
 Example: sheet pi parts.schema pairs.schema parts-to-pairs.mapping run
+";
+
+const QUERY: &str = "\
+sheet query S1 S2 S3 S4 F G H RUN
+
+Asks a run for a list, in three steps: projects it by delta along F, joins what
+is left by pi along G, and unites the joined tables by sigma along H. RUN is an
+instance of S1, the result one of S4. F goes from S2 to S1, G from S2 to S3, and
+H from S3 to S4; G is a mapping that pi takes, H one that sigma takes.
+
+S2 says what is asked for: which tables go into a line of the list, and by which
+links they belong together. A row that finds no partner is in no line, and one
+that finds several is in several.
+
+  -o PATH       write a folder of CSV files, or a sheet if PATH ends in .sheet
+  --force       replace PATH if it exists
+  --tray BYTES  lend the call a tray of BYTES (refusal 16 if it is too small)
+
+Example: sheet query vendor.schema needed.schema joined.schema digs.schema \\
+             needed-to-vendor.mapping needed-to-joined.mapping \\
+             joined-to-digs.mapping run -o digs
 ";
 
 const MATCH: &str = "\

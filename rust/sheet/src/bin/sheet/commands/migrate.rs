@@ -1,4 +1,4 @@
-//! `sheet delta`, `sheet sigma` and `sheet pi`
+//! `sheet delta`, `sheet sigma`, `sheet pi` and `sheet query`
 
 use crate::arguments::Arguments;
 use crate::ask::{ask, decoded, schema};
@@ -19,6 +19,11 @@ pub fn sigma(arguments: &Arguments, words: &[String]) -> Result<(), Failure> {
 /// Pushes a run by fitting choices.
 pub fn pi(arguments: &Arguments, words: &[String]) -> Result<(), Failure> {
     run("pi", Call::Pi, Role::T, arguments, words)
+}
+
+/// Projects a run, joins what is left of it, and unites the joined tables.
+pub fn query(arguments: &Arguments, words: &[String]) -> Result<(), Failure> {
+    run("query", Call::Query, Role::Schema(4), arguments, words)
 }
 
 fn run(

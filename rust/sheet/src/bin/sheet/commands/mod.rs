@@ -28,7 +28,7 @@ pub struct Command {
 const FILES: &[&str] = &["--output", "--force"];
 const TRAYS: &[&str] = &["--output", "--force", "--tray"];
 
-const COMMANDS: [Command; 13] = [
+const COMMANDS: [Command; 14] = [
     Command {
         name: "pack",
         options: &["--output", "--force", "--hex", "--unchecked"],
@@ -39,6 +39,7 @@ const COMMANDS: [Command; 13] = [
     Command { name: "delta", options: TRAYS, run: migrate::delta },
     Command { name: "sigma", options: TRAYS, run: migrate::sigma },
     Command { name: "pi", options: TRAYS, run: migrate::pi },
+    Command { name: "query", options: TRAYS, run: migrate::query },
     Command { name: "match", options: &[], run: matching::check },
     Command { name: "turn", options: TRAYS, run: matching::turn },
     Command { name: "first-path", options: TRAYS, run: first_path::run },
