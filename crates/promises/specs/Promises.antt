@@ -194,13 +194,12 @@ pub record C-14 : Type 0 where
 -- ---- Document 02, C-15: the dig sheet
 
 pub record C-15 : Type 1 where
-  -- "Sheets are judged schemas first, then F, G, H, then the run; then 13 and 14 for G, 12 for H, and 15 after each migration in turn": "places 1 to 4 the
-  -- schemas, 5 F, 6 G, 7 H, 8 the run; then at place 0: 13, 14 (G), 12 (H), 15 of Delta's result, 15 of Pi's (15 of Sigma's never arises); the call last
-  -- 16"; what a tray is left as is Demand-1's
+  -- "Sheets are judged schemas first, then F, G, H, then the run; then 13 and 14 for G, 12 for H, and 15 after each migration in turn": places 1 to 4 the
+  -- schemas, 5 F, 6 G, 7 H, 8 the run; then at place 0; last 16; what a tray is left as is Demand-1's
   pub query : (s1 s2 s3 s4 f g h i tray : List ℕ)
       → Decides (sheetTests tray (queryTests s1 s2 s3 s4 f g h i)) (inTray tray (sheetOf (queryTables s1 s2 s3 s4 f g h i)) .answer)
-  -- it "gives Sigma along H of Pi along G of Delta along F, as in definition 2 of source document 000"; "each intermediate table is an accepted instance
-  -- of its schema"
+  -- it "gives Sigma along H of Pi along G of Delta along F, as in definition 2 of source document 000"; each intermediate table is an accepted instance
+  -- of its schema
   pub query-agrees : (s1 s2 s3 s4 f g h i : List ℕ) {M : Migrated} → queryTables s1 s2 s3 s4 f g h i ≡ accepted M → QueryAgrees s1 s2 s3 s4 f g h i M
   -- no other tables are this query's: "F goes from the second schema to the first, G from the second to the third, H from the third to the fourth"
   pub query-one : {F G H : theoryMapping.Mapping} {I D P Q D′ P′ R : theory.Instance ℕ} → IsMapping G → IsMapping H → G .S ≡ F .S → H .S ≡ G .T → Bijective G → Even H
@@ -208,15 +207,16 @@ pub record C-15 : Type 1 where
   -- "13 and 14 for G, 12 for H, and 15 after each migration in turn": which of them, or a result, on accepted sheets, by what the theory has
   pub query-answers : (s1 s2 s3 s4 f g h i : List ℕ) {q : Query} {I : Instance} → QueryInputs s1 s2 s3 s4 f g h i q I
       → QueryAnswers s1 s2 s3 s4 f g h i q (instanceOf I)
-  -- "15 of Sigma's never arises": with its test left out the migrations give the same
+  -- 15 of Sigma's never arises: with its test left out the migrations give the same
   pub sigma-fits : {s1 s2 s3 s4 f g h i : List ℕ} {q : Query} {I : Instance} → QueryInputs s1 s2 s3 s4 f g h i q I
       → isBijective (q .S3) (q .G) ≡ true → even (listedCategory (q .S3)) (listedCategory (q .S4)) (q .H) ≡ true
       → migrateQuery q I ≡ (do
         D ← ensureFits (delta (q .S2) (q .F) I)
         P ← ensureFits (pi (listedCategory (q .S2)) (listedCategory (q .S3)) (q .G) D)
         accepted (record { schema = q .S4; tables = sigma (listedCategory (q .S3)) (listedCategory (q .S4)) (q .H) P }))
-  -- "lent the same tray as the last, the call accepts exactly where the three public calls do, chained through results cut to their length (the first two
-  -- trays of the header's instance bytes), and writes the same bytes (which refusal is given may differ): a caller may cut the chain anywhere"
+  -- "What it prints is the three definitions applied one after the other": lent the same tray as the last, the call accepts exactly where the three public
+  -- calls do, chained through results cut to their length (the first two trays of the header's instance bytes), and writes the same bytes; which refusal
+  -- is given may differ
   pub chained : (s1 s2 s3 s4 f g h i first second tray : List ℕ) → maxInstanceBytes ≤ length first → maxInstanceBytes ≤ length second
       → SameResult (inTray tray (sheetOf (queryTables s1 s2 s3 s4 f g h i))) (chained s1 s2 s3 s4 f g h i first second tray)
 

@@ -2,18 +2,14 @@
 use Prim.Native.Nat.{ℕ, _≤_}
 use mathlib.Core.Path.{_≡_, sym, ap, _∙_}
 use mathlib.Core.Bool.{cond}
-use native.Mathlib.Omega.{arith}
 use lib.Dec.{leb}
-use borrow.Author.Tests.{leb-true}
 use Rattle.meaning.specs.Lists.{sumOf}
 use Rattle.meaning.specs.Formats as formats
 use Rattle.meaning.specs.Formats.{maxRows}
 use Rattle.meaning.specs.Calls.{accepted, ensureFits}
-use Rattle.instance.specs.declared.Instance.{Instance}
 use Rattle.steps.specs.Answers.{outcomeOf}
 use Rattle.steps.proofs.Refusing.{refusal, no-refusal}
-use Rattle.steps.proofs.Sizes.{sized}
-use Rattle.steps.proofs.Opening.{passed}
+use Rattle.steps.proofs.Sizes.{sized, few-rows}
 
 module _ (J : formats.Instance) {n : ℕ} (d : n ≡ cond (leb (sumOf (J .counts)) maxRows) 0 15) where
   pub size-told : outcomeOf (refusal n 0) J ≡ ensureFits J
@@ -24,4 +20,4 @@ module _ (J : formats.Instance) {n : ℕ} (d : n ≡ cond (leb (sumOf (J .counts
     fits = sym size-told ∙ no-refusal (refusal n 0) J z
 
     pub fit : sumOf (J .counts) ≤ maxRows
-    fit = leb-true (sumOf (J .counts)) maxRows (passed (leb (sumOf (J .counts)) maxRows) 15 (λ e. omega arith) (sym d ∙ z))
+    fit = few-rows (sumOf (J .counts)) (sym d ∙ z)

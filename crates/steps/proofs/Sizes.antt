@@ -1,7 +1,7 @@
 -- The size of a result: a result that was made, of its size, or none.
 use Prim.Native.Nat.{ℕ, _≤_}
-use mathlib.Core.Path.{_≡_, refl, sym, ap, _∙_}
-use mathlib.Core.Bool.{Bool, true, false, cond}
+use mathlib.Core.Path.{_≡_, sym, ap, _∙_}
+use mathlib.Core.Bool.{cond}
 use mathlib.Core.List.{List}
 use native.Mathlib.Omega.{arith}
 use borrow.Author.Tests.{leb-true}
@@ -21,6 +21,7 @@ use Rattle.steps.specs.declared.Refusal.{Refusal}
 use Rattle.steps.specs.Answers.{outcomeOf}
 use Rattle.steps.specs.Migrated.{Migrates}
 use Rattle.steps.proofs.Refusing.{refusal, still-refused, yields, tested}
+use Rattle.steps.proofs.Opening.{passed}
 
 -- ---- the size of a result
 
@@ -31,11 +32,7 @@ pub sized : (J : formats.Instance) → outcomeOf (size J) J ≡ ensureFits J
 sized J = yields (size J) tt (tested (leb (sumOf (J .counts)) maxRows) 15 (λ e. omega arith)) (λ _. J)
 
 pub few-rows : (n : ℕ) → _≡_ {A = ℕ} (cond (leb n maxRows) 0 15) 0 → n ≤ maxRows
-few-rows n e = go (leb n maxRows) refl e
-  where
-    go : (b : Bool) → leb n maxRows ≡ b → _≡_ {A = ℕ} (cond b 0 15) 0 → n ≤ maxRows
-    go true d e = leb-true n maxRows d
-    go false d e = absurd (omega arith)
+few-rows n e = leb-true n maxRows (passed (leb n maxRows) 15 (λ e. omega arith) e)
 
 module _ {t : Schema} {i : Instance} {M : Outcome meaning.Migrated} (S : Sound t) where
   -- a result that was made, of its size

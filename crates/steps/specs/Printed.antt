@@ -1,4 +1,4 @@
--- A text that push prints, in a lent buffer.
+-- A text that a program prints, in a lent buffer.
 use Prim.Native.Nat.{ℕ}
 use mathlib.Core.Bool.{cond}
 use mathlib.Core.List.{List, _++_}

@@ -1,4 +1,4 @@
-// The sheets of schemas and mappings, which every call along a mapping opens first.
+// The sheets of schemas and of mappings between them, which migrations, checkers, turnings and queries open first.
 use crate::Refusal;
 use instance::has_few_columns;
 use lifts::even::is_even;

@@ -1,4 +1,4 @@
-// The push program's input and output: where the four sheets lie in what it reads, and the text that it prints.
+// The input and output of the programs push and dig: where sheets lie in what they read, and the text that they print.
 use instance::Instance;
 use schema::Schema;
 
