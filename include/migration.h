@@ -1,13 +1,16 @@
 /* Functorial data migration of inspection records: the calls of the static library libmigration.a.
  *
  * A sheet is a byte string, lent as a pointer and a length; it may have any length and any content, and it is never changed.
- * A tray is where a result is written; a call that refuses changes no byte of it, and bytes beyond the result keep their values.
+ * A tray is where a result is written; a call that refuses changes no byte of it, and bytes beyond the result keep their values. The two calls
+ * that change a run, migration_add_row and migration_withdraw_row, are lent the run itself in a tray.
  * A sheet is bit fields, most significant bit first, then 0 bits to the byte's end, then nothing; by the bits of each field:
  *   schema      nodes 5, edges 6, attributes 5, equations 6; each edge: source 4, target 4; each attribute: node 4, kind 4;
  *               each equation: two paths
  *   path        start 4, length 4, edges 5 each
  *   mapping     each node's image 4; each edge's image: length 4, edges 5 each; each attribute's image 4
  *   instance    each table's row count 10; for each edge, each source row's target row 9; for each attribute, each row's value 32
+ *   row         of one table: for each edge from it, in the order of edge numbers, the target row 9; for each attribute at it, in the order of
+ *               attribute numbers, the value 32; a table with neither has the empty sheet; at most 100 bytes
  *   matching    for each row, tables in order, the row of its partner 9
  *   chain       steps 8; each step: equation 5, direction 1 (0 left side to right, 1 back), edges before the replaced part 4, counted in
  *               the path as it stands before that step
@@ -27,9 +30,10 @@
  * A pointer may be null only where its length is 0. Two lent byte strings may overlap, unless one of them is a tray.
  *
  * Every call gives a 64-bit number:
- *   below 2^32                      accepted: the byte length of the result; 0 for a check, and for migration_path_chain 0 unequal
+ *   below 2^32                      accepted: the byte length of the result; 0 for a check, and for migration_path_chain 0 unequal; for a change
+ *                                   two byte lengths, 65536 * the run's + the pushed sheet's
  *   2^32 + 256 * number + place     refused: number says why (below), place is the sheet's, counted from 1 in the order of the
- *                                   parameters; 0 where the condition is one of all sheets together
+ *                                   parameters; 0 where the condition is one of all sheets together, or a test of the change itself
  *
  * The calls have no state, keep no pointer and allocate nothing: they may run side by side.
  */
@@ -49,7 +53,8 @@ extern "C" {
  *   instance    1 inside the row counts, 3, 1 in the rest, 2, 9, 10, 11
  *   path        1, 2, 4
  * Then come the conditions of all sheets together, at place 0: 12, 13, 14, 15, of migration_query 13, 14, 12, 15; then a list of partners:
- * 1, 2, 17; last, at place 0, 16.
+ * 1, 2, 17; last, at place 0, 16. Of a change 12 is followed by the tests of the change itself, all at place 0: of an added row 18, then of its
+ * sheet 1, 2, 9, 10, 11, then 15; of a row to be withdrawn 18, 19; last 16.
  */
 enum {
     MIGRATION_CUT = 1,          /* the bits end before the last field does */
@@ -63,12 +68,14 @@ enum {
     MIGRATION_DANGLING = 9,     /* a target row at or beyond its table's count */
     MIGRATION_OFF_SCALE = 10,   /* a value below its kind's smallest or above its largest */
     MIGRATION_BENT_ROW = 11,    /* a row where the two sides of an equation lead to different rows */
-    MIGRATION_UNEVEN = 12,      /* Sigma, a checker or a turning, and the mapping is not even; the query, and H is not */
+    MIGRATION_UNEVEN = 12,      /* Sigma, a checker, a turning or a change, and the mapping is not even; the query, and H is not */
     MIGRATION_UNPAIRED = 13,    /* Pi or the query, and the attribute mapping (of G) is not a bijection */
     MIGRATION_WIDE = 14,        /* Pi or the query, and a table has more than 64 components (of G) */
-    MIGRATION_OVERFULL = 15,    /* a migrated instance has more than 512 rows */
-    MIGRATION_SMALL_TRAY = 16,  /* the result needs more bytes than were lent */
-    MIGRATION_NO_MATCH = 17     /* the list is not a matching */
+    MIGRATION_OVERFULL = 15,    /* a migrated instance has more than 512 rows; a row is added to 512 */
+    MIGRATION_SMALL_TRAY = 16,  /* the result, of a change either result, needs more bytes than were lent */
+    MIGRATION_NO_MATCH = 17,    /* the list is not a matching */
+    MIGRATION_ABSENT = 18,      /* the table, or the row, that a change names does not exist */
+    MIGRATION_STILL_HELD = 19   /* a link of another row leads to the row that is to be withdrawn */
 };
 
 /* A tray of this many bytes holds every instance sheet, of this many every matching sheet, of this many every path sheet, and of this many every
@@ -87,13 +94,18 @@ enum {
     MIGRATION_STACK_SIGMA = 262144,
     MIGRATION_STACK_PI = 524288,
     MIGRATION_STACK_QUERY = 688128,
-    MIGRATION_STACK_MATCHINGS = 401408 /* each of the four calls with a list of partners */
+    MIGRATION_STACK_MATCHINGS = 401408, /* each of the four calls with a list of partners */
+    MIGRATION_STACK_CHANGES = 425984    /* each of the two calls that change a run */
 };
 
 /* Taking an answer apart; number and place are those of a refusal. */
 static inline int migration_accepted(uint64_t answer) { return answer >> 32 == 0; }
 static inline unsigned migration_number(uint64_t answer) { return (unsigned)(answer >> 8 & 0xff); }
 static inline unsigned migration_place(uint64_t answer) { return (unsigned)(answer & 0xff); }
+
+/* The two byte lengths that an accepted change gives. */
+static inline size_t migration_run_length(uint64_t answer) { return (size_t)(answer >> 16); }
+static inline size_t migration_pushed_length(uint64_t answer) { return (size_t)(answer & 0xffff); }
 
 /* Checks a schema sheet (place 1). */
 uint64_t migration_check_schema(const uint8_t *s, size_t s_len);
@@ -144,6 +156,42 @@ uint64_t migration_pi(const uint8_t *s, size_t s_len, const uint8_t *t, size_t t
 uint64_t migration_query(const uint8_t *s1, size_t s1_len, const uint8_t *s2, size_t s2_len, const uint8_t *s3, size_t s3_len,
                          const uint8_t *s4, size_t s4_len, const uint8_t *f, size_t f_len, const uint8_t *g, size_t g_len,
                          const uint8_t *h, size_t h_len, const uint8_t *run, size_t run_len, uint8_t *tray, size_t tray_len);
+
+/* Rows that come and go, along an even mapping from S to T (places 1 to 3): a run over S (place 4) is changed where it stands, and its pushed sheet
+ * is made anew.
+ * `run, run_len` is a whole tray. The run is the sheet that its first `run_length` bytes are, or the whole tray where run_length is beyond it.
+ * run_len is the tray's length, run_length the run's own.
+ * `pushed, pushed_len` is another tray, whose old bytes are not read.
+ * An accepted change leaves at the start of the run's tray the sheet of the changed run, and at the start of the pushed tray what migration_sigma
+ * gives for it; the bytes beyond each keep their values. The answer has both lengths: migration_run_length(answer) and
+ * migration_pushed_length(answer). The run's is what the next change of this run is lent as run_length. A refused change leaves both trays as they
+ * were.
+ * Trays of MIGRATION_INSTANCE_BYTES hold every result. They may not overlap each other, nor any lent sheet.
+ * Nothing is cut off a number before it is compared: table 2^32 does not exist.
+ *
+ *   uint8_t run[MIGRATION_INSTANCE_BYTES] = {..}, pushed[MIGRATION_INSTANCE_BYTES];
+ *   uint64_t length = ..;
+ *   for (each row that is added) {
+ *       uint64_t answer = migration_add_row(s, s_len, t, t_len, f, f_len, run, sizeof run, length, table, row, row_len, pushed, sizeof pushed);
+ *       if (migration_accepted(answer)) {
+ *           length = migration_run_length(answer);
+ *           .. the pushed sheet is the first migration_pushed_length(answer) bytes of pushed ..
+ *       }
+ *   }
+ */
+
+/* Adds a row at the end of a table, with the links and values of a row sheet. At place 0: 12; 18 where the table is no node of S; 1, 2, 9, 10, 11 of
+ * the row; 15 where the run has 512 rows already; 16 where either tray is too small for its result. */
+uint64_t migration_add_row(const uint8_t *s, size_t s_len, const uint8_t *t, size_t t_len, const uint8_t *f, size_t f_len,
+                           uint8_t *run, size_t run_len, uint64_t run_length, uint64_t table, const uint8_t *row, size_t row_len,
+                           uint8_t *pushed, size_t pushed_len);
+
+/* Withdraws a row, by its number in its table: later rows of that table move down by one, and so do the links to them. At place 0: 12; 18 where the
+ * table is no node of S or has no such row; 19 where some row's link leads to it; 16 where the pushed tray is too small. The changed run is never
+ * longer than the run was. */
+uint64_t migration_withdraw_row(const uint8_t *s, size_t s_len, const uint8_t *t, size_t t_len, const uint8_t *f, size_t f_len,
+                                uint8_t *run, size_t run_len, uint64_t run_length, uint64_t table, uint64_t row,
+                                uint8_t *pushed, size_t pushed_len);
 
 /* Matchings along an even mapping from S to T (places 1 to 3), of a run over S (place 4) and a book over T (place 5).
  * The list (place 6) is a matching sheet: for each row of the side's first instance, tables in order, the row of its partner in 9 bits.

@@ -15,6 +15,7 @@ use Rattle.meaning.specs.Evenness.{even}
 use Rattle.meaning.specs.Sigma.{sigma}
 use Rattle.meaning.specs.Pi.{isBijective, hasFewComponents, pi}
 use Rattle.meaning.specs.Calls.{Outcome, refused, accepted, _>>=_, at, ensure, ensureFits, Migration, migration, Migrated, deltaTables, sigmaTables, piTables, Sides, sides}
+use Rattle.meaning.specs.Changes.{Run, judgeRun}
 use Rattle.agreement.proofs.Tests.{refused-not-accepted, accepted-same}
 
 -- ---- one step
@@ -51,14 +52,14 @@ pub record MigrationSound (s t f : List ℕ) (m : Migration) : Type 0 where
   pub F-sound : judgeMapping (listedCategory (m .S)) (listedCategory (m .T)) f ≡ sound (m .F)
 
 module _ (s t f : List ℕ) where
-  migration-accepted : {m : Migration} → migration s t f ≡ accepted m → MigrationSound s t f m
+  pub migration-accepted : {m : Migration} → migration s t f ≡ accepted m → MigrationSound s t f m
   migration-accepted {m} e =
       let a = sheet-accepted 1 (judgeSchema s) _ e in
       let b = sheet-accepted 2 (judgeSchema t) _ (a .2) in
       let c = sheet-accepted 3 (judgeMapping (listedCategory (a .0)) (listedCategory (b .0)) f) _ (b .2) in
       subst (MigrationSound s t f) (accepted-same (c .2)) (record { S-sound = a .1; T-sound = b .1; F-sound = c .1 })
 
-  migration-accepts : {m : Migration} → MigrationSound s t f m → migration s t f ≡ accepted m
+  pub migration-accepts : {m : Migration} → MigrationSound s t f m → migration s t f ≡ accepted m
   migration-accepts h = rw (h .S-sound, h .T-sound, h .F-sound)
 
 -- ---- the three migrations
@@ -178,3 +179,21 @@ module _ (s t f i j : List ℕ) where
         ← h .pushed-is,
         ← h .pulled-is,
       )
+
+-- ---- a run that is to be changed
+pub record RunSound (s t f i : List ℕ) (x : Run) : Type 0 where
+  pub migration-sound : MigrationSound s t f (x .m)
+  pub tables-sound : judgeInstance (x .m .S) i ≡ sound (x .tables)
+  pub is-even : even (listedCategory (x .m .S)) (listedCategory (x .m .T)) (x .m .F) ≡ true
+
+module _ (s t f i : List ℕ) where
+  pub run-accepted : {x : Run} → judgeRun s t f i ≡ accepted x → RunSound s t f i x
+  run-accepted e =
+      let a = bind-accepted (migration s t f) _ e in
+      let m = a .0 in
+      let b = sheet-accepted 4 (judgeInstance (m .S) i) _ (a .2) in
+      let c = ensure-accepted (even (listedCategory (m .S)) (listedCategory (m .T)) (m .F)) 12 _ (b .2) in
+      subst (RunSound s t f i) (accepted-same (c .1)) (record { migration-sound = migration-accepted s t f (a .1); tables-sound = b .1; is-even = c .0 })
+
+  pub run-accepts : {x : Run} → RunSound s t f i x → judgeRun s t f i ≡ accepted x
+  run-accepts h = rw (migration-accepts s t f (h .migration-sound), h .tables-sound, h .is-even)

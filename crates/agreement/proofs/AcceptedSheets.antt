@@ -122,8 +122,8 @@ row-4 = (λ h. (h .0, h .1 .0, h .1 .1 .0, h .1 .1 .1), λ h. (h .0, (h .1, (h .
 
 -- what one outcome yields the other does
 module _ {A X : Type 0} {p o : Outcome A} (e : p ≡ o) where
-  pub refusal-by : {n m : ℕ} → (o ≡ refused n m) ↔ X → (p ≡ refused n m) ↔ X
-  refusal-by x = (λ k. x .0 (sym e ∙ k), λ h. e ∙ x .1 h)
+  pub outcome-by : {q : Outcome A} → (o ≡ q) ↔ X → (p ≡ q) ↔ X
+  outcome-by x = (λ k. x .0 (sym e ∙ k), λ h. e ∙ x .1 h)
 
   pub result-by : ((a : A) × (o ≡ accepted a)) ↔ X → ((a : A) × (p ≡ accepted a)) ↔ X
   result-by x = (λ k. x .0 (k .0, sym e ∙ k .1), λ h. let r = x .1 h in (r .0, e ∙ r .1))
@@ -168,11 +168,11 @@ module _ (s t f i : List ℕ) {S T : Schema} {F : Mapping} {I : Instance} (x : I
       let full : Bijective (mappingOf S T F) → (after14 ≡ refused 15 0) ↔ PiOverfull (mappingOf S T F) (instanceOf I) =
       λ b. own-refusal fitting 15 joined (λ _ e. refused-not-accepted (sym e)) (overfull-iff v I b) in
       record {
-        unpaired = refusal-by yields (own-refusal paired 13 after13 (λ _.
+        unpaired = outcome-by yields (own-refusal paired 13 after13 (λ _.
             not-refused narrow 14 13 after14 (λ k. omega arith) (settled-apart 15 13 after14 (λ k. omega arith) settled)) (false-iff paired pairs));
-        wide = refusal-by yields (later-refusal paired 13 14 after13 (λ k. omega arith) pairs (λ _.
+        wide = outcome-by yields (later-refusal paired 13 14 after13 (λ k. omega arith) pairs (λ _.
             own-refusal narrow 14 after14 (λ _. settled-apart 15 14 after14 (λ k. omega arith) settled) (wide-iff v)));
-        overfull = Iff·trans (refusal-by yields (later-refusal paired 13 15 after13 (λ k. omega arith) pairs (λ b.
+        overfull = Iff·trans (outcome-by yields (later-refusal paired 13 15 after13 (λ k. omega arith) pairs (λ b.
             later-refusal narrow 14 15 after14 (λ k. omega arith) narrows (λ _. full b)))) row-3;
         result = Iff·trans (result-by yields (later-result paired 13 after13 pairs (λ b.
             later-result narrow 14 after14 narrows (λ _. settled-result 15 after14 settled (full b))))) row-3;
@@ -190,7 +190,7 @@ module _ (s t f j : List ℕ) {S T : Schema} {F : Mapping} {J : Instance} (x : I
       rw (x .S-accepted, x .T-accepted, x .F-accepted, x .I-accepted) (bind-assoc (ensure b 15) (λ _. accepted (delta S F J)) (λ D. accepted (record { schema = S; tables = D }))) in
       let full = own-refusal b 15 pulled (λ _ e. refused-not-accepted (sym e)) (delta-overfull-iff v J (instance-valid T j (x .I-accepted) .shaped)) in
       record {
-        overfull = refusal-by yields full;
+        overfull = outcome-by yields full;
         result = result-by yields (settled-result 15 (ensure b 15 >>= λ _. pulled) (settled-next b 15 pulled (inr (_, refl))) full);
       }
 
@@ -208,7 +208,7 @@ module _ (s t f i : List ℕ) {S T : Schema} {F : Mapping} {I : Instance} (x : I
       let fits : Even (mappingOf S T F) → (M : Migrated) × (pushed ≡ accepted M) =
       λ e. (record { schema = T; tables = P }, rw (sigma-never-overfull v e (instance-valid S i (x .I-accepted)))) in
       record {
-        uneven = refusal-by yields (own-refusal b 12 pushed (λ t e. refused-not-accepted (sym e ∙ fits (w .0 t) .1)) (false-iff b w));
+        uneven = outcome-by yields (own-refusal b 12 pushed (λ t e. refused-not-accepted (sym e ∙ fits (w .0 t) .1)) (false-iff b w));
         result = result-by yields (own-result b 12 pushed w fits);
       }
 

@@ -59,7 +59,7 @@ sheet-within o n h bytes e =
     let k : instanceSheet (a .0 .tables) ≡ bytes = accepted-same (a .2) in
     rw k at (h (a .0) (a .1))
 
-inputs : {s t f i : List ℕ} {m : Migration} {R : Schema} {I : Instance} → MigrationSound s t f m → judgeInstance R i ≡ sound I → Inputs s t f i (m .S) (m .T) R (m .F) I
+pub inputs : {s t f i : List ℕ} {m : Migration} {R : Schema} {I : Instance} → MigrationSound s t f m → judgeInstance R i ≡ sound I → Inputs s t f i (m .S) (m .T) R (m .F) I
 inputs a e = record { S-accepted = a .S-sound; T-accepted = a .T-sound; F-accepted = a .F-sound; I-accepted = e }
 
 pub delta-agrees : (s t f j : List ℕ) {M : Migrated} → deltaTables s t f j ≡ accepted M → DeltaAgrees s t f j M

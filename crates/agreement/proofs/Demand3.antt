@@ -20,21 +20,25 @@ use Rattle.theory.proofs.Transposition.{corresponds}
 use Rattle.meaning.specs.Lists.{sumOf}
 use Rattle.meaning.specs.Schema.{Schema}
 use Rattle.meaning.specs.Category.{listedCategory}
+use Rattle.meaning.specs.Sheet.{sound}
 use Rattle.meaning.specs.Formats.{Mapping, Instance, maxRows, kinds}
 use Rattle.meaning.specs.Views.{schemaOf, mappingOf, count, instanceOf}
+use Rattle.meaning.specs.Judge.{judgeInstance}
 use Rattle.meaning.specs.Delta.{delta}
 use Rattle.meaning.specs.Sigma.{sigma}
 use Rattle.meaning.specs.Matching.{judgeMatching}
-use Rattle.meaning.specs.Calls.{Outcome, refused, accepted, _>>=_, at, Sides, sides, judgePushed, judgeRaw, checkPushed, checkRaw, pushedToRaw, rawToPushed, inTray}
+use Rattle.meaning.specs.Calls.{Outcome, refused, accepted, _>>=_, Sides, sides, judgePushed, judgeRaw, checkPushed, checkRaw, pushedToRaw, rawToPushed, inTray}
 use Rattle.meaning.proofs.Examples.{vendor, operator, vendorToOperator, run, book}
 use Rattle.agreement.specs.Demand3.{Accepts, Refuses, RefusesTray, meaningAnswers, Provided, pushedSide, rawSide, Clauses, AllRefuse}
 use Rattle.agreement.specs.Valid.{InRange, ValidMapping, ValidInstance}
+use Rattle.agreement.specs.Agrees.{Inputs}
 use Rattle.agreement.proofs.Tables.{rows-sum, matching-below}
 use Rattle.agreement.proofs.Accepted.{at-accepted, SidesSound, sides-accepted, sides-accepts}
 use Rattle.agreement.proofs.Valid.{mapping-valid, instance-valid}
 use Rattle.agreement.proofs.Evenness.{even-iff}
 use Rattle.agreement.proofs.Delta.{delta-alike, delta-rows}
 use Rattle.agreement.proofs.Sigma.{sigma-is-sigma, sigma-valid}
+use Rattle.agreement.proofs.Agrees.{inputs}
 use Rattle.agreement.proofs.Matchings.{matching-sheet-judged, matching-judged-sheet}
 use Rattle.agreement.proofs.Turning.{Matches, Reads, checks, Turned, turned-by, takes, turns, turns-back, comes, Numbers, meets-same}
 
@@ -200,35 +204,40 @@ module _ {s t f i j : List ℕ} (x : Provided s t f i j) where
 
 -- ---- the provisos hold exactly when the tests before the matching sheet are passed
 
-module _ (s t f i j : List ℕ) where
-  accepted-provided : Accepts (sides s t f i j) → Provided s t f i j
-  accepted-provided (y, e) =
-      let S = y .m .S in
-      let T = y .m .T in
-      let F = y .m .F in
-      let h = sides-accepted s t f i j e in
-      let m = h .migration-sound in
-      let F-valid = mapping-valid s t f (m .S-sound) (m .T-sound) (m .F-sound) in
-      let run-valid = instance-valid S i (h .run-sound) in
-      let book-valid = instance-valid T j (h .book-sound) in
-      let E = even-iff F-valid .0 (h .is-even) in
+-- accepted sheets, an even mapping and a book whose Delta fits meet them, with Sigma of the run
+module _ {s t f i : List ℕ} {S T : Schema} {F : Mapping} {I : Instance} (x : Inputs s t f i S T S F I) (E : theoryMapping.Even (mappingOf S T F)) where
+  abbrev pub provided : (j : List ℕ) {J : Instance} → judgeInstance T j ≡ sound J → theory.rows (schemaOf S) (theoryMapping.delta (mappingOf S T F) (instanceOf J)) ≤ maxRows → Provided s t f i j
+  provided j {J} book fits =
+      let v = mapping-valid s t f (x .S-accepted) (x .T-accepted) (x .F-accepted) in
+      let w = instance-valid S i (x .I-accepted) in
+      let P = sigma (listedCategory S) (listedCategory T) F I in
+      let p = sigma-valid v E w in
       record {
         S = S;
         T = T;
         F = F;
-        run = y .run;
-        book = y .book;
-        pushed = instanceOf (sigma (listedCategory S) (listedCategory T) F (y .run));
-        S-accepted = m .S-sound;
-        T-accepted = m .T-sound;
-        F-accepted = m .F-sound;
+        run = I;
+        book = J;
+        pushed = instanceOf P;
+        S-accepted = x .S-accepted;
+        T-accepted = x .T-accepted;
+        F-accepted = x .F-accepted;
         F-even = E;
-        run-accepted = h .run-sound;
-        book-accepted = h .book-sound;
-        pushed-is = sigma-is-sigma F-valid E run-valid;
-        pushed-accepted = let p = sigma-valid F-valid E run-valid in rw (rows-sum T (sigma (listedCategory S) (listedCategory T) F (y .run)) (p .shaped .tables)) (p .few-rows);
-        pulled-accepted = rw (delta-rows F-valid (y .book) (book-valid .shaped)) (rw (h .pulled-is) at (h .pulled-fits));
+        run-accepted = x .I-accepted;
+        book-accepted = book;
+        pushed-is = sigma-is-sigma v E w;
+        pushed-accepted = rw (rows-sum T P (p .shaped .tables)) (p .few-rows);
+        pulled-accepted = fits;
       }
+
+module _ (s t f i j : List ℕ) where
+  accepted-provided : Accepts (sides s t f i j) → Provided s t f i j
+  accepted-provided (y, e) =
+      let h = sides-accepted s t f i j e in
+      let m = h .migration-sound in
+      let v = mapping-valid s t f (m .S-sound) (m .T-sound) (m .F-sound) in
+      let w = instance-valid (y .m .T) j (h .book-sound) in
+      provided (inputs m (h .run-sound)) (even-iff v .0 (h .is-even)) j (h .book-sound) (rw (delta-rows v (y .book) (w .shaped)) (rw (h .pulled-is) at (h .pulled-fits)))
 
   pub provided-iff : Provided s t f i j ↔ Accepts (sides s t f i j)
   provided-iff = (λ x. (tables x, sides-accepts s t f i j (tables-sound x)), accepted-provided)

@@ -1,4 +1,4 @@
--- Meaning agrees with theory, from paths up to queries and demand 3, and what is read of an input; `promises` gathers what is shown.
+-- Meaning agrees with theory, from paths up to queries, demand 3 and changes of a run, and what is read of an input; `promises` gathers what is shown.
 pub mod Paths
 pub mod Loops
 pub mod Steps
@@ -15,9 +15,13 @@ pub mod Mappings
 pub mod Tests
 pub mod Refusals
 pub mod Outcomes
+pub mod ChangeTests
 pub mod Accepted
 pub mod Valid
 pub mod Joined
+pub mod Rows
+pub mod RowSheets
+pub mod Withdrawals
 pub mod Evenness
 pub mod Delta
 pub mod Sigma
@@ -32,4 +36,6 @@ pub mod Chained
 pub mod Matchings
 pub mod Turning
 pub mod Demand3
+pub mod Changes
+pub mod GivesBack
 pub mod Framing

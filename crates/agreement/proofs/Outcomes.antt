@@ -17,19 +17,19 @@ use Rattle.meaning.specs.Delta.{delta}
 use Rattle.meaning.specs.Evenness.{even}
 use Rattle.meaning.specs.Sigma.{sigma}
 use Rattle.meaning.specs.Pi.{isBijective, hasFewComponents, pi}
-use Rattle.meaning.specs.Calls.{Outcome, refused, accepted, _>>=_, at, ensure, ensureFits, checkSchema, migration, checkMapping, checkInstance, pathQuestion, explanation, pathChain, Migrated, deltaTables, sigmaTables, piTables, sheetOf, Sides, sides, judgePushed, judgeRaw, checkPushed, checkRaw, pushedToRaw, rawToPushed, Lent, written, inTray, pushedSheet, rawSheet}
+use Rattle.meaning.specs.Calls.{Outcome, refused, accepted, _>>=_, ensure, ensureFits, checkSchema, migration, checkMapping, checkInstance, pathQuestion, explanation, pathChain, Migrated, deltaTables, sigmaTables, piTables, sheetOf, Sides, sides, judgePushed, judgeRaw, checkPushed, checkRaw, pushedToRaw, rawToPushed, Lent, written, inTray, pushedSheet, rawSheet}
 use Rattle.meaning.specs.Query.{Query, judgeQuery, ensureMappings, migrateQuery, queryTables}
 use Rattle.agreement.specs.Tests.{Refusal, Tests, done, test, Decides, holds}
 use Rattle.agreement.proofs.Tests.{refused-not-accepted, accepted-same, bind-same, bind-assoc, decides-then, decides-ensure, decides-as, decides-giving}
 use Rattle.agreement.proofs.Refusals.{schema-decided, path-decided, mapping-decided, instance-decided, matching-decided}
-use Rattle.agreement.specs.CallTests.{Result, sheetTests, trayTests, rawTests, pushedTests, sidesTests, judgeQueryTests, queryTests, piTests, sigmaTests, deltaTests, fitsTests, pathChainTests, pathQuestionTests, checkInstanceTests, checkMappingTests, migrationTests, checkSchemaTests}
+use Rattle.agreement.specs.CallTests.{Result, Written, sheetTests, trayTests, rawTests, pushedTests, sidesTests, judgeQueryTests, queryTests, piTests, sigmaTests, deltaTests, fitsTests, pathChainTests, pathQuestionTests, checkInstanceTests, checkMappingTests, migrationTests, checkSchemaTests}
 
 -- ---- checks, the path question and the chain between two paths
 
 pub checkSchema-decided : (s : List ℕ) → Decides (checkSchemaTests s) (checkSchema s)
 checkSchema-decided s = decides-giving (schema-decided 1 s) (λ S. tt)
 
-migration-decided : (s t f : List ℕ) → Decides (migrationTests s t f) (migration s t f)
+pub migration-decided : (s t f : List ℕ) → Decides (migrationTests s t f) (migration s t f)
 migration-decided s t f =
     decides-then (schema-decided 1 s) (λ S.
     decides-then (schema-decided 2 t) (λ T.
@@ -52,7 +52,7 @@ pathChain-decided s p q =
 
 -- ---- migrations
 
-fits-decided : (J : Instance) → Decides (fitsTests J) (ensureFits J)
+pub fits-decided : (J : Instance) → Decides (fitsTests J) (ensureFits J)
 fits-decided J = decides-giving (decides-ensure (leb (sumOf (J .counts)) maxRows) 15) (λ _. J)
 
 pub delta-decided : (s t f j : List ℕ) → Decides (deltaTests s t f j) (deltaTables s t f j)
@@ -236,6 +236,16 @@ module _ (tray : List ℕ) where
 
 -- ---- the lent bytes
 
+-- a result in front of what was lent
+pub is-written : (lent bytes : List ℕ) → length bytes ≤ length lent → Written lent bytes (bytes ++ drop (length bytes) lent)
+is-written lent bytes l = record {
+  room = l;
+  front = take-at bytes (drop (length bytes) lent) (length bytes) refl;
+  beyond = λ i h. let z : length bytes + (i - length bytes) ≡ i = omega arith in
+      rw z at (getD-append-add bytes (drop (length bytes) lent) (i - length bytes) 0 ∙ getD-drop (length bytes) lent (i - length bytes) 0);
+  whole = length-append bytes (drop (length bytes) lent) ∙ omega (arith, length-drop (length bytes) lent);
+}
+
 module _ (tray : List ℕ) where
   -- a refused call leaves every lent byte
   pub refused-tray : (o : Outcome (List ℕ)) {n p : ℕ} → inTray tray o .answer ≡ refused n p → inTray tray o .tray ≡ tray
@@ -251,18 +261,5 @@ module _ (tray : List ℕ) where
   accepted-tray (accepted bytes) {n} e = go (leb (length bytes) (length tray)) refl e
     where
       go : (b : Bool) → leb (length bytes) (length tray) ≡ b → lent tray bytes b .answer ≡ accepted n → Result tray (accepted bytes) n
-      go true d e =
-          let k : length bytes ≡ n = accepted-same e in
-          let l : length bytes ≤ length tray = leb-true (length bytes) (length tray) d in
-          let w : inTray tray (accepted bytes) .tray ≡ bytes ++ drop (length bytes) tray = rw d in
-          record {
-            bytes = bytes;
-            result = refl;
-            size = k;
-            room = omega arith;
-            front = rw w (take-at bytes (drop (length bytes) tray) n k);
-            beyond = λ i h. rw w (let z : length bytes + (i - length bytes) ≡ i = omega arith in
-                rw z at (getD-append-add bytes (drop (length bytes) tray) (i - length bytes) 0 ∙ getD-drop (length bytes) tray (i - length bytes) 0));
-            whole = rw w (length-append bytes (drop (length bytes) tray) ∙ omega (arith, length-drop (length bytes) tray));
-          }
+      go true d e = record { bytes = bytes; result = refl; size = accepted-same e; written = rw d (is-written tray bytes (leb-true (length bytes) (length tray) d)) }
       go false d e = absurd (refused-not-accepted e)

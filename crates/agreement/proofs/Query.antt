@@ -33,7 +33,7 @@ use Rattle.agreement.proofs.Delta.{delta-alike, delta-valid}
 use Rattle.agreement.proofs.Sigma.{sigma-is-sigma, sigma-valid, sigma-never-overfull}
 use Rattle.agreement.proofs.Bijections.{bijective-iff}
 use Rattle.agreement.proofs.Pi.{pi-is-pi, pi-valid}
-use Rattle.agreement.proofs.AcceptedSheets.{true-iff, false-iff, wide-iff, overfull-iff, delta-overfull-iff, row-3, row-4, refusal-by, result-by}
+use Rattle.agreement.proofs.AcceptedSheets.{true-iff, false-iff, wide-iff, overfull-iff, delta-overfull-iff, row-3, row-4, outcome-by, result-by}
 use Rattle.agreement.proofs.Agrees.{lendable}
 
 -- ---- accepted sheets: valid mappings, and valid tables as far as they fit
@@ -292,13 +292,13 @@ module _ (s1 s2 s3 s4 f g h i : List ℕ) {q : Query} {I : Instance} (x : QueryI
   query-answers =
       let y = query-yields s1 s2 s3 s4 f g h i x in
       record {
-        unpaired = refusal-by y (own-refusal (paired q) 13 after13 (λ _. not-13) (false-iff (paired q) pairs));
-        wide = refusal-by y (later-refusal (paired q) 13 14 after13 (λ k. omega arith) pairs (λ _.
+        unpaired = outcome-by y (own-refusal (paired q) 13 after13 (λ _. not-13) (false-iff (paired q) pairs));
+        wide = outcome-by y (later-refusal (paired q) 13 14 after13 (λ k. omega arith) pairs (λ _.
             own-refusal (narrow q) 14 after14 (λ _. not-14) (wide-iff (G-valid x))));
-        uneven = Iff·trans (refusal-by y (later-refusal (paired q) 13 12 after13 (λ k. omega arith) pairs (λ _.
+        uneven = Iff·trans (outcome-by y (later-refusal (paired q) 13 12 after13 (λ k. omega arith) pairs (λ _.
             later-refusal (narrow q) 14 12 after14 (λ k. omega arith) narrows (λ _.
             own-refusal (evenly q) 12 after12 (λ _. not-12) (false-iff (evenly q) evens))))) row-3;
-        overfull = Iff·trans (refusal-by y (later-refusal (paired q) 13 15 after13 (λ k. omega arith) pairs (λ b.
+        overfull = Iff·trans (outcome-by y (later-refusal (paired q) 13 15 after13 (λ k. omega arith) pairs (λ b.
             later-refusal (narrow q) 14 15 after14 (λ k. omega arith) narrows (λ _.
             later-refusal (evenly q) 12 15 after12 (λ k. omega arith) evens (full b))))) row-4;
         result = Iff·trans (result-by y (later-result (paired q) 13 after13 pairs (λ b.

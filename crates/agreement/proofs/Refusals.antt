@@ -19,6 +19,7 @@ use Rattle.meaning.specs.Judge as judge
 use Rattle.meaning.specs.Judge.{isWellFormed, hasFewPaths, testSchema, judgeSchema, judgePath, judgeMapping, testInstance, judgeInstance, imagesFit, keepsEquations, linksInRange, valuesInRange, obeysEquations}
 use Rattle.meaning.specs.Matching.{isMatching, judgeMatching}
 use Rattle.meaning.specs.Calls.{refused, at}
+use Rattle.meaning.specs.Rows.{oneRow, rowLinksInRange, rowObeysEquations, testRow, judgeRow}
 use Rattle.meaning.proofs.Lists.{no-bool}
 use Rattle.meaning.proofs.Readers.{sound-same}
 use Rattle.meaning.proofs.Facts.{instance-shaped}
@@ -27,7 +28,7 @@ use Rattle.agreement.specs.Valid.{OffScale}
 use Rattle.agreement.proofs.Instances.{links-iff, beyond-iff}
 use Rattle.agreement.specs.Tests.{Refusal, Tests, done, test, Decides, holds}
 use Rattle.agreement.proofs.Tests.{decides-as}
-use Rattle.agreement.specs.SheetTests.{matchingTests, instanceTests, readLinksValues, mappingTests, readImages, schemaTests, pathTests, whatRead}
+use Rattle.agreement.specs.SheetTests.{rowSheetTests, matchingTests, instanceTests, readLinksValues, mappingTests, readImages, schemaTests, pathTests, whatRead}
 
 -- ---- which refusals a reader can give
 
@@ -320,3 +321,14 @@ matching-decided place S A B s =
     decides-reader place 2 (bits.tailOk s q) s q _ _ (
     decides-judge place 17 (isMatching S A B l) _ (
     decides-sound place l)))
+
+-- ---- an added row
+pub row-decided : (place : ℕ) (S : Schema) (I : Instance) (c : ℕ) (s : List ℕ) → Decides (rowSheetTests place S I c s) (at place (judgeRow S I c s))
+row-decided place S I c s =
+    decides-as (ap (λ (r : Read Instance). at place (judge._>>=_ (judged r) (testRow S I c))) (linksValues-finished S (oneRow S c) s 0)) (
+    decides-read place (cuts-linksValues S (oneRow S c)) s 0 finished (testRow S I c) (λ R q.
+    decides-reader place 2 (bits.tailOk s q) s q _ (testRow S I c) (
+    decides-judge place 9 (rowLinksInRange S I R) _ (
+    decides-judge place 10 (valuesInRange kinds S R) _ (
+    decides-judge place 11 (rowObeysEquations S I c R) _ (
+    decides-sound place R))))))

@@ -1,24 +1,27 @@
 -- The tests of each call, in the order of document 01: sheets by place, then 12, 13, 14, 15 at place 0, then the matching sheet, last 16; those of the
--- query in that of document 02, C-15; and what a result leaves in a tray.
+-- query in that of document 02, C-15, those of the changes in that of C-16; and what results leave in their trays.
 use Prim.Native.Nat.{ℕ, _≤_}
 use mathlib.Core.Path.{_≡_}
-use mathlib.Core.Bool.{Bool}
+use mathlib.Core.Bool.{Bool, not, _&&_}
 use mathlib.Core.List.{List, [], _∷_, _++_}
 use lib.ListN.{length, getD, take}
-use lib.Dec.{leb}
+use lib.Dec.{leb, ltb}
 use Rattle.meaning.specs.Lists.{sumOf}
 use Rattle.meaning.specs.Category.{listedCategory}
 use Rattle.meaning.specs.PathChain.{firstChain}
 use Rattle.meaning.specs.PathEquality.{firstPath}
 use Rattle.meaning.specs.Formats.{Instance, maxRows, pathSheet, instanceSheet}
+use Rattle.meaning.specs.Views.{count}
 use Rattle.meaning.specs.Delta.{delta}
 use Rattle.meaning.specs.Evenness.{even}
 use Rattle.meaning.specs.Sigma.{sigma}
 use Rattle.meaning.specs.Pi.{isBijective, hasFewComponents, pi}
 use Rattle.meaning.specs.Calls.{Outcome, accepted, explanation, Migration, Migrated, Sides, inTray}
 use Rattle.meaning.specs.Query.{Query}
+use Rattle.meaning.specs.Rows.{added, isHeld, withdrawn}
+use Rattle.meaning.specs.Changes.{Run, Sheets, sheetsOf, inTrays}
 use Rattle.agreement.specs.Tests.{Refusal, Tests, done, test, then, giving, holds}
-use Rattle.agreement.specs.SheetTests.{placed, schemaNumbers, schemaTests, pathNumbers, pathTests, mappingNumbers, mappingTests, instanceNumbers, instanceTests, matchingNumbers, matchingTests}
+use Rattle.agreement.specs.SheetTests.{placed, schemaNumbers, schemaTests, pathNumbers, pathTests, mappingNumbers, mappingTests, instanceNumbers, instanceTests, matchingNumbers, matchingTests, rowSheetNumbers, rowSheetTests}
 
 -- ---- checks, the path question and the chain between two paths
 
@@ -125,6 +128,35 @@ queryTests s1 s2 s3 s4 f g h i =
     then (fitsTests (pi (listedCategory (q .S2)) (listedCategory (q .S3)) (q .G) D)) (λ P.
     giving (fitsTests (sigma (listedCategory (q .S3)) (listedCategory (q .S4)) (q .H) P)) (λ Q. record { schema = q .S4; tables = Q }))))))))
 
+-- ---- changes of a run (document 02, C-16): S, T, mapping and run, then 12, then the change itself
+
+abbrev pub runRefusals : List Refusal
+runRefusals = migrationRefusals ++ placed 4 instanceNumbers ++ (12, 0) ∷ []
+
+abbrev pub runTests : (s t f i : List ℕ) → Tests Run runRefusals
+runTests s t f i =
+    then (migrationTests s t f) (λ m.
+    then (instanceTests 4 (m .S) i) (λ I.
+    giving (together 12 (even (listedCategory (m .S)) (listedCategory (m .T)) (m .F))) (λ _. record { m = m; tables = I })))
+
+abbrev pub additionRefusals : List Refusal
+additionRefusals = (18, 0) ∷ placed 0 rowSheetNumbers ++ (15, 0) ∷ []
+
+abbrev pub additionTests : Run → ℕ → List ℕ → Tests Instance additionRefusals
+additionTests x c row =
+    then (together 18 (ltb c (x .m .S .graph .nodes))) (λ _.
+    then (rowSheetTests 0 (x .m .S) (x .tables) c row) (λ R.
+    fitsTests (added (x .m .S) (x .tables) R)))
+
+abbrev pub withdrawalTests : Run → ℕ → ℕ → Tests Instance ((18, 0) ∷ (19, 0) ∷ [])
+withdrawalTests x c r =
+    then (together 18 (ltb c (x .m .S .graph .nodes) && ltb r (count (x .tables) c))) (λ _.
+    giving (together 19 (not (isHeld (x .m .S) (x .tables) c r))) (λ _. withdrawn (x .m .S) (x .tables) c r))
+
+-- both sheets, of the run after the tests of a change
+abbrev pub changeTests : {rs : List Refusal} → (s t f i : List ℕ) → (Run → Tests Instance rs) → Tests Sheets (runRefusals ++ rs)
+changeTests s t f i change = then (runTests s t f i) (λ x. giving (change x) (sheetsOf x))
+
 -- ---- checkers and turnings
 
 abbrev pub sidesRefusals : List Refusal
@@ -159,14 +191,32 @@ trayTests tray t = then t (λ bytes. test (16, 0) (holds (leb (length bytes) (le
 abbrev pub sheetTests : {rs : List Refusal} → List ℕ → Tests Migrated rs → Tests ℕ (rs ++ (16, 0) ∷ [])
 sheetTests tray t = trayTests tray (giving t (λ m. instanceSheet (m .tables)))
 
+-- two results in their trays: 16 for either
+abbrev pub traysTests : {rs : List Refusal} → (run pushed : List ℕ) → Tests Sheets rs → Tests (ℕ × ℕ) (rs ++ (16, 0) ∷ [])
+traysTests run pushed t =
+    then t (λ x. test (16, 0) (holds (leb (length (x .run)) (length run) && leb (length (x .pushed)) (length pushed))) (λ _. done (length (x .run), length (x .pushed))))
+
 -- ---- the lent bytes
 
--- an accepted result: its byte length, the result in front, and the lent bytes behind it
+-- a tray with a result in front, and the lent bytes behind it
+pub record Written (lent bytes tray : List ℕ) : Type 0 where
+  pub room : length bytes ≤ length lent
+  pub front : take (length bytes) tray ≡ bytes
+  pub beyond : (i : ℕ) → length bytes ≤ i → getD tray i 0 ≡ getD lent i 0
+  pub whole : length tray ≡ length lent
+
+-- an accepted result: its byte length, and its tray
 pub record Result (tray : List ℕ) (o : Outcome (List ℕ)) (n : ℕ) : Type 0 where
   pub bytes : List ℕ
   pub result : o ≡ accepted bytes
   pub size : length bytes ≡ n
-  pub room : n ≤ length tray
-  pub front : take n (inTray tray o .tray) ≡ bytes
-  pub beyond : (i : ℕ) → n ≤ i → getD (inTray tray o .tray) i 0 ≡ getD tray i 0
-  pub whole : length (inTray tray o .tray) ≡ length tray
+  pub written : Written tray bytes (inTray tray o .tray)
+
+-- two accepted results: their byte lengths, and their trays
+pub record Results (run pushed : List ℕ) (o : Outcome Sheets) (n k : ℕ) : Type 0 where
+  pub sheets : Sheets
+  pub result : o ≡ accepted sheets
+  pub run-size : length (sheets .run) ≡ n
+  pub pushed-size : length (sheets .pushed) ≡ k
+  pub run-written : Written run (sheets .run) (inTrays run pushed o .run)
+  pub pushed-written : Written pushed (sheets .pushed) (inTrays run pushed o .pushed)

@@ -1,4 +1,5 @@
--- The tests of each kind of sheet, in order: 1 inside the leading counts, 3, 1 in the rest, 2, then upward from 4 (document 01, 'Why a sheet is sent back').
+-- The tests of each kind of sheet, in order: 1 inside the leading counts, 3, 1 in the rest, 2, then upward from 4 (document 01, 'Why a sheet is sent back'); of an added row 1, 2, 9, 10, 11
+-- (document 02, C-16).
 use Prim.Native.Nat.{ℕ}
 use mathlib.Core.Bool.{not}
 use mathlib.Core.List.{List, [], _∷_, map}
@@ -13,6 +14,7 @@ use Rattle.meaning.specs.Formats.{Mapping, Instance, maxRows, countsInLimits, r
 use Rattle.meaning.specs.Category.{Category}
 use Rattle.meaning.specs.Judge.{isWellFormed, hasFewPaths, imagesFit, keepsEquations, linksInRange, valuesInRange, obeysEquations}
 use Rattle.meaning.specs.Matching.{isMatching}
+use Rattle.meaning.specs.Rows.{oneRow, rowLinksInRange, rowObeysEquations}
 use Rattle.agreement.specs.Tests.{Refusal, Tests, done, test, holds}
 
 -- what was read, and the position behind it
@@ -107,3 +109,17 @@ matchingTests place S A B s =
     test (2, place) (holds (bits.tailOk s (l .1))) (λ _.
     test (17, place) (holds (isMatching S A B (l .0))) (λ _.
     done (l .0))))
+
+-- ---- an added row (document 02, C-16)
+
+abbrev pub rowSheetNumbers : List ℕ
+rowSheetNumbers = 1 ∷ 2 ∷ 9 ∷ 10 ∷ 11 ∷ []
+
+abbrev pub rowSheetTests : (place : ℕ) → Schema → Instance → ℕ → List ℕ → Tests Instance (placed place rowSheetNumbers)
+rowSheetTests place S I c s =
+    test (1, place) (whatRead (readLinksValues S (oneRow S c) s 0)) (λ R.
+    test (2, place) (holds (bits.tailOk s (R .1))) (λ _.
+    test (9, place) (holds (rowLinksInRange S I (R .0))) (λ _.
+    test (10, place) (holds (valuesInRange kinds S (R .0))) (λ _.
+    test (11, place) (holds (rowObeysEquations S I c (R .0))) (λ _.
+    done (R .0))))))

@@ -1,4 +1,6 @@
 // The calls by their numbers in a record.
+use changes::exports::migration_add_row;
+use changes::exports::migration_withdraw_row;
 use migration::exports::migration_check_instance;
 use migration::exports::migration_check_mapping;
 use migration::exports::migration_check_pushed;
@@ -78,4 +80,23 @@ pub(crate) fn answer<'a>(
         return migration_check_raw(s, t, f, i, j, k);
     }
     written(call, s, t, f, i, j, k, l, m, &mut *tray)
+}
+
+// The calls that change a run, in its tray: 13 adds a row, 14 withdraws one.
+pub(crate) fn changed<'a>(
+    call: u8,
+    s: &'a [u8],
+    t: &'a [u8],
+    f: &'a [u8],
+    run: &mut [u8],
+    length: u64,
+    table: u64,
+    added: &'a [u8],
+    withdrawn: u64,
+    pushed: &mut [u8],
+) -> u64 {
+    if call == 13 {
+        return migration_add_row(s, t, f, &mut *run, length, table, added, &mut *pushed);
+    }
+    migration_withdraw_row(s, t, f, &mut *run, length, table, withdrawn, &mut *pushed)
 }

@@ -1,8 +1,9 @@
-// The program cases: reads calls with their sheets and tray lengths, makes each call, and prints its answer and a checksum of the tray.
+// The program cases: reads calls with their sheets and tray lengths, makes each call, and prints its answer and a checksum of each tray.
 // docs/TESTS.md has the form of a record and of a line.
 mod calls;
 
 use calls::answer;
+use calls::changed;
 use text::framing::bytes_of;
 use text::framing::sheet_at;
 ghost use Prim.Native.Nat.{_+_, _≤_, _<_};
@@ -18,7 +19,7 @@ const UNWRITTEN: u8 = 165;
 const TRAY: usize = 65536;
 
 // At most so many bytes are read.
-const INPUT: usize = 524288;
+const INPUT: usize = 655360;
 
 // A checksum with one byte more.
 fn mixed(sum: u64, byte: u8) -> u64 {
@@ -37,6 +38,47 @@ fn checksum(tray: &[u8]) -> u64 {
     sum
 }
 
+// 2 to the power 56: what is below it has room for a byte more.
+const SEVEN_BYTES: u64 = 72057594037927936;
+
+// A number with one byte more at its end; only the last eight bytes count.
+fn lengthened(number: u64, byte: u8) -> u64 {
+    number % SEVEN_BYTES * 256 + byte as u64
+}
+
+// The number that bytes are, most significant first: 8 bytes in a record, 0 where there are none.
+fn number_of(bytes: &[u8]) -> u64 {
+    let n = bytes.len();
+    let mut number = 0;
+    let mut i = 0;
+    while i < n {
+        number = lengthened(number, bytes[i]);
+        i += 1;
+    }
+    number
+}
+
+// As many bytes as a tray holds and are lent.
+fn fewer(lent: &[u8], tray: &[u8]) -> usize
+    ensures { λ r. ⌜ (r ≤ length (now (lent .entry))) × (r ≤ length (now (tray .entry))) ⌝ }
+{
+    if lent.len() < tray.len() {
+        return lent.len();
+    }
+    tray.len()
+}
+
+// Copies n bytes to the start of a tray.
+fn copy(lent: &[u8], n: usize, tray: &mut [u8])
+    requires { ⌜ (n ≤ length (now lent)) × (n ≤ length (now tray)) ⌝ }
+{
+    let mut i = 0;
+    while i < n {
+        tray[i] = lent[i];
+        i += 1;
+    }
+}
+
 fn wide(x: u8) -> usize
     ensures { λ r. ⌜ r < 256 ⌝ }
 {
@@ -51,7 +93,7 @@ fn number_at(input: &[u8], at: usize) -> usize
     256 * wide(input[at]) + wide(input[at + 1])
 }
 
-// Makes a call, and prints its answer and the checksum of the tray on a line.
+// Makes a call, and prints its answer and the checksum of the tray on a line; a change is made and printed with both its trays.
 fn put_answer<'a>(
     call: u8,
     s: &'a [u8],
@@ -64,10 +106,77 @@ fn put_answer<'a>(
     m: &'a [u8],
     tray: &mut [u8],
 ) {
+    if 12 < call {
+        make_change(call, s, t, f, i, j, k, l, m, &mut *tray);
+        return;
+    }
     io::print_decimal(1, answer(call, s, t, f, i, j, k, l, m, &mut *tray));
     io::write_all(1, b" ");
     io::print_decimal(1, checksum(&*tray));
     io::write_all(1, b"\n");
+}
+
+// Makes a change, and prints its answer, the checksum of the pushed tray and that of the run's tray on a line.
+fn put_change<'a>(
+    call: u8,
+    s: &'a [u8],
+    t: &'a [u8],
+    f: &'a [u8],
+    run: &mut [u8],
+    length: u64,
+    table: u64,
+    added: &'a [u8],
+    withdrawn: u64,
+    pushed: &mut [u8],
+) {
+    let answer = changed(
+        call,
+        s,
+        t,
+        f,
+        &mut *run,
+        length,
+        table,
+        added,
+        withdrawn,
+        &mut *pushed,
+    );
+    io::print_decimal(1, answer);
+    io::write_all(1, b" ");
+    io::print_decimal(1, checksum(&*pushed));
+    io::write_all(1, b" ");
+    io::print_decimal(1, checksum(&*run));
+    io::write_all(1, b"\n");
+}
+
+// Makes the change of a record, in a copy of the run's tray, and prints it.
+fn make_change<'a>(
+    call: u8,
+    s: &'a [u8],
+    t: &'a [u8],
+    f: &'a [u8],
+    lent: &'a [u8],
+    added: &'a [u8],
+    length: &'a [u8],
+    table: &'a [u8],
+    withdrawn: &'a [u8],
+    pushed: &mut [u8],
+) {
+    let mut run = [UNWRITTEN; TRAY];
+    let n = fewer(lent, &run);
+    copy(lent, n, &mut run);
+    put_change(
+        call,
+        s,
+        t,
+        f,
+        &mut run[..n],
+        number_of(length),
+        number_of(table),
+        added,
+        number_of(withdrawn),
+        &mut *pushed,
+    );
 }
 
 // Where a number ends.

@@ -17,6 +17,7 @@ use Rattle.meaning.specs.Schema.{Attribute, Equation, attributeAt, source, targ
 use Rattle.meaning.specs.Formats.{Kinds, Instance, inRange}
 use Rattle.meaning.specs.Views.{count, column, follow, rows}
 use Rattle.meaning.specs.Judge.{linksInRange, valuesInRange}
+use Rattle.meaning.specs.Rows.{rowLinksInRange}
 use Rattle.meaning.proofs.Tabulate.{and-both, all-at, upto-tabulate, all-same}
 use Rattle.schema.specs.declared.Schema.{Schema}
 use Rattle.schema.specs.Decoded.{graphOf, pathOf, noPath, equationOf, schemaOf}
@@ -34,27 +35,36 @@ abbrev pub equationTest : Instance → Equation → Bool
 equationTest I q = all (λ r. eqb (follow I (q .left .edges) r) (follow I (q .right .edges) r)) (rows I (q .left .start))
 
 module _ (t : Schema) (A : Sound t) (i : declared.Instance) (links values : List ℕ) where
+  pub count-at : (c : ℕ) → c < t .graph .nodes → count (tablesOf t i links values) c ≡ getD (i .counts) c 0
+  count-at c l = tabulate-getD (t .graph .nodes) (λ k. getD (i .counts) k 0) 0 c l
+
+  -- ---- the links of an instance j, as rows of the tables of i
+  module _ (j : declared.Instance) (links′ values′ : List ℕ) where
+    links-at : (e : ℕ) → e < t .graph .edges
+        → all (λ r. ltb r (count (tablesOf t i links values) (target (graphOf (t .graph)) e))) (getD (tablesOf t j links′ values′ .links) e [])
+        ≡ linkTest (t .graph .source) (t .graph .target) (j .counts) (i .counts) links′ e
+    links-at e l =
+        let a : count (tablesOf t i links values) (target (graphOf (t .graph)) e) ≡ rowsOf (t .graph .target) (i .counts) e =
+        ap (count (tablesOf t i links values)) (target-at (t .graph .edges) (t .graph .source) (t .graph .target) e l) ∙ count-at (getD (t .graph .target) e 0) (target-in t A e l)
+        in
+        let b : getD (tablesOf t j links′ values′ .links) e [] ≡ columnOf links′ (512 * e) (rowsOf (t .graph .source) (j .counts) e) =
+        tabulate-getD (t .graph .edges) (λ k. columnOf links′ (512 * k) (rowsOf (t .graph .source) (j .counts) k)) [] e l
+        in
+        ap₂ (λ (n : ℕ) (xs : List ℕ). all (λ r. ltb r n) xs) a b
+
+    pub row-links-test : rowLinksInRange (schemaOf t) (tablesOf t i links values) (tablesOf t j links′ values′)
+        ≡ all (linkTest (t .graph .source) (t .graph .target) (j .counts) (i .counts) links′) (tabulate (t .graph .edges) (λ e. e))
+    row-links-test =
+        rw (edges-count (t .graph .edges) (t .graph .source) (t .graph .target), upto-tabulate (t .graph .edges))
+        (all-same _ _ (t .graph .edges) (λ e. e) (λ e. e) links-at)
+
+module _ (t : Schema) (A : Sound t) (i : declared.Instance) (links values : List ℕ) where
   abbrev I : Instance
   I = tablesOf t i links values
 
-  pub count-at : (c : ℕ) → c < t .graph .nodes → count I c ≡ getD (i .counts) c 0
-  count-at c l = tabulate-getD (t .graph .nodes) (λ k. getD (i .counts) k 0) 0 c l
-
   -- ---- links and values in range
-  links-at : (e : ℕ) → e < t .graph .edges → all (λ r. ltb r (count I (target (graphOf (t .graph)) e))) (getD (I .links) e []) ≡ linkTest (t .graph .source) (t .graph .target) (i .counts) links e
-  links-at e l =
-      let a : count I (target (graphOf (t .graph)) e) ≡ rowsOf (t .graph .target) (i .counts) e =
-      ap (count I) (target-at (t .graph .edges) (t .graph .source) (t .graph .target) e l) ∙ count-at (getD (t .graph .target) e 0) (target-in t A e l)
-      in
-      let b : getD (I .links) e [] ≡ columnOf links (512 * e) (rowsOf (t .graph .source) (i .counts) e) =
-      tabulate-getD (t .graph .edges) (λ k. columnOf links (512 * k) (rowsOf (t .graph .source) (i .counts) k)) [] e l
-      in
-      ap₂ (λ (n : ℕ) (xs : List ℕ). all (λ r. ltb r n) xs) a b
-
-  pub links-test : linksInRange (schemaOf t) I ≡ all (linkTest (t .graph .source) (t .graph .target) (i .counts) links) (tabulate (t .graph .edges) (λ e. e))
-  links-test =
-      rw (edges-count (t .graph .edges) (t .graph .source) (t .graph .target), upto-tabulate (t .graph .edges))
-      (all-same _ _ (t .graph .edges) (λ e. e) (λ e. e) links-at)
+  pub links-test : linksInRange (schemaOf t) I ≡ all (linkTest (t .graph .source) (t .graph .target) (i .counts) (i .counts) links) (tabulate (t .graph .edges) (λ e. e))
+  links-test = row-links-test t A i links values i links values
 
   abbrev attribute : ℕ → Attribute
   attribute a = record { node = getD (t .node) a 0; kind = getD (t .kind) a 0 }
@@ -77,7 +87,7 @@ module _ (t : Schema) (A : Sound t) (i : declared.Instance) (links values : List
 
     pub link-in : (e : ℕ) → e < t .graph .edges → (r : ℕ) → r < rowsOf (t .graph .source) (i .counts) e → linkIn links e r < rowsOf (t .graph .target) (i .counts) e
     link-in e l r h =
-        let a = all-at (linkTest (t .graph .source) (t .graph .target) (i .counts) links) (t .graph .edges) (λ k. k) (sym links-test ∙ in-range) e l in
+        let a = all-at (linkTest (t .graph .source) (t .graph .target) (i .counts) (i .counts) links) (t .graph .edges) (λ k. k) (sym links-test ∙ in-range) e l in
         ltb-true _ _ (all-at (λ x. ltb x (rowsOf (t .graph .target) (i .counts) e)) (rowsOf (t .graph .source) (i .counts) e) (λ k. getD links (512 * e + k) 0) a r h)
 
     pub link-is : (e : ℕ) → e < t .graph .edges → (r : ℕ) → r < rowsOf (t .graph .source) (i .counts) e → linkIn links e r ≡ Rattle.meaning.specs.Views.link I e r
@@ -117,7 +127,7 @@ module _ (t : Schema) (A : Sound t) (i : declared.Instance) (links values : List
         let q = getD (t .right) k noPath in
         let S = sides-at t A k l in
         let n = getD (i .counts) (p .start) 0 in
-        let e : rows I (p .start) ≡ tabulate n (λ r. r) = ap upto (count-at (p .start) (S .start-in)) ∙ upto-tabulate n in
+        let e : rows I (p .start) ≡ tabulate n (λ r. r) = ap upto (count-at t A i links values (p .start) (S .start-in)) ∙ upto-tabulate n in
         ap (all (λ r. eqb (follow I (pathOf p .edges) r) (follow I (pathOf q .edges) r))) e
         ∙ all-same _ _ n (λ r. r) (λ r. r)
         (λ r h. ap₂ eqb (sym (led (p .start) (pathOf p .edges) r (S .left-joins) h .same)) (sym (led (q .start) (pathOf q .edges) r (S .right-joins) (rw (← S .one-start) h) .same)))

@@ -1,4 +1,4 @@
--- Laws of what is stored in working arrays, of the tests of an instance, and what the walks of the table list share.
+-- Laws of what is stored in working arrays, of the tests of an instance, what the walks of the table list share, and that accepted tables are valid.
 pub mod Storing
 pub mod Columns
 pub mod Decoding
@@ -8,3 +8,4 @@ pub mod TableList
 pub mod Judging
 pub mod Lent
 pub mod Rooms
+pub mod Validity

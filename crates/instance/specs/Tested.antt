@@ -15,9 +15,9 @@ use Rattle.schema.specs.Decoded.{schemaOf}
 use Rattle.instance.specs.declared.Instance.{Instance}
 use Rattle.instance.specs.Decoded.{rowsOf, columnOf, tablesOf, judgedInstance, Limits}
 
--- the links along edge e are rows of its target
-abbrev pub linkTest : List ℕ → List ℕ → List ℕ → List ℕ → ℕ → Bool
-linkTest source target counts links e = all (λ r. ltb r (rowsOf target counts e)) (columnOf links (512 * e) (rowsOf source counts e))
+-- the links along edge e, as many as rows has for its source, are below what counts has for its target
+abbrev pub linkTest : List ℕ → List ℕ → List ℕ → List ℕ → List ℕ → ℕ → Bool
+linkTest source target rows counts links e = all (λ r. ltb r (rowsOf target counts e)) (columnOf links (512 * e) (rowsOf source rows e))
 
 -- the values of attribute a are of its kind
 abbrev pub valueTest : List ℕ → List ℕ → List ℕ → List ℕ → Kinds → ℕ → Bool

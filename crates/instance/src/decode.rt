@@ -123,29 +123,22 @@ fn read_columns(
     }
 }
 
-// What follows the leading counts.
-fn decode_tables(
+// What follows the leading counts, from a position on: links and values of so many rows.
+pub fn decode_tables(
     schema: Schema,
     s: &[u8],
+    at: usize,
     counts: [u32; Schema::NODES],
     links: &mut [u32],
     values: &mut [u32],
 ) -> Instance
-    requires { ⌜ Sound schema × RoomFor schema (now links) (now values) × (10 * schema .graph .nodes ≤ 8 * length (now s)) × (sumOf (frontOf (schema .graph .nodes) counts) ≤ maxRows) ⌝ }
-    ensures { λ r. ⌜ Says schema r (now (links .exit)) (now (values .exit)) (judged (readTables (schemaOf schema) (frontOf (schema .graph .nodes) counts) (now (s .entry)) (10 * schema .graph .nodes))) ⌝ }
+    requires { ⌜ Sound schema × RoomFor schema (now links) (now values) × (at ≤ 8 * length (now s)) × (at ≤ 160) × (sumOf (frontOf (schema .graph .nodes) counts) ≤ maxRows) ⌝ }
+    ensures { λ r. ⌜ Says schema r (now (links .exit)) (now (values .exit)) (judged (readTables (schemaOf schema) (frontOf (schema .graph .nodes) counts) (now (s .entry)) at)) ⌝ }
 {
     let graph = schema.graph;
     let source = graph.source;
     let node = schema.node;
-    let a = read_columns(
-        s,
-        10 * graph.nodes,
-        9,
-        graph.edges,
-        &source,
-        &counts,
-        &mut *links,
-    );
+    let a = read_columns(s, at, 9, graph.edges, &source, &counts, &mut *links);
     if a.cut {
         return Instance::faulty(faults::CUT);
     }
@@ -182,7 +175,7 @@ pub fn decode_instance(schema: Schema, s: &[u8], links: &mut [u32], values: &mut
     }
     let counts = read_counts(s, nodes);
     if total(&counts, nodes) <= Instance::ROWS {
-        return decode_tables(schema, s, counts, &mut *links, &mut *values);
+        return decode_tables(schema, s, 10 * nodes, counts, &mut *links, &mut *values);
     }
     Instance::faulty(faults::COUNT)
 }

@@ -51,16 +51,23 @@ fn column_within(range: Range, l: &[u32], base: usize, n: usize) -> bool
     so_far
 }
 
-// Whether the links along each of n edges are rows of its target.
-fn columns_below(n: usize, source: &[u8], target: &[u8], counts: &[u32], links: &[u32]) -> bool
-    requires { ⌜ Columns n (now source) (now counts) × Columns n (now target) (now counts) × (maxRows * n ≤ length (now links)) ⌝ }
-    ensures { λ r. ⌜ r ≡ all (linkTest (now (source .entry)) (now (target .entry)) (now (counts .entry)) (now (links .entry))) (tabulate n (λ e. e)) ⌝ }
+// Whether the links along each of n edges are rows of its target: as many links as rows has for its source, to rows below the target's count.
+pub fn columns_below(
+    n: usize,
+    source: &[u8],
+    target: &[u8],
+    rows: &[u32],
+    counts: &[u32],
+    links: &[u32],
+) -> bool
+    requires { ⌜ Columns n (now source) (now rows) × Columns n (now target) (now counts) × (maxRows * n ≤ length (now links)) ⌝ }
+    ensures { λ r. ⌜ r ≡ all (linkTest (now (source .entry)) (now (target .entry)) (now (rows .entry)) (now (counts .entry)) (now (links .entry))) (tabulate n (λ e. e)) ⌝ }
 {
     let mut e = 0;
     while e < n {
-        let rows = rows_of(source, counts, e);
+        let many = rows_of(source, rows, e);
         let bound = rows_of(target, counts, e);
-        if column_below(links, Instance::ROWS * e, rows, bound) {
+        if column_below(links, Instance::ROWS * e, many, bound) {
             e += 1;
         } else {
             return false;
@@ -103,7 +110,7 @@ pub fn links_in_range(schema: Schema, instance: Instance, links: &[u32]) -> bool
     let source = graph.source;
     let target = graph.target;
     let counts = instance.counts;
-    columns_below(graph.edges, &source, &target, &counts, links)
+    columns_below(graph.edges, &source, &target, &counts, &counts, links)
 }
 
 // Refusal 10 (off scale).

@@ -21,7 +21,8 @@ use Rattle.mapping.specs.declared.Mapping.{Mapping}
 use Rattle.mapping.specs.Decoded.{mappingOf}
 use Rattle.mapping.specs.Judged.{Schemas, Sound}
 use Rattle.mapping.proofs.Viewing.{node-at, attributes-count, attribute-is}
-use Rattle.mapping.proofs.Counting.{all-filter, all-both}
+use Rattle.meaning.proofs.Lists.{all-filter}
+use Rattle.mapping.proofs.Counting.{all-both}
 use Rattle.lifts.specs.Even.{imageClass, evenColumnAt, evenColumnsAt, evenPathsAt}
 use Rattle.lifts.proofs.Columns.{attributes-over}
 use Rattle.lifts.proofs.EvenPaths.{even-paths}

@@ -1,7 +1,7 @@
 -- Lists that are filtered, counted and searched.
 use Prim.Native.Nat.{ℕ, suc, _+_, _<_, _≤_}
 use mathlib.Core.Path.{_≡_, refl, ap, _∙_}
-use mathlib.Core.Bool.{Bool, true, false, cond, _&&_}
+use mathlib.Core.Bool.{Bool, true, false, _&&_}
 use mathlib.Core.List.{List, [], _∷_, _++_, List·Memᴰ, List·Memᴰ·head, List·Memᴰ·tail}
 use native.Mathlib.Omega.{arith}
 use native.Mathlib.Numerals.{add-one}
@@ -25,15 +25,6 @@ module _ {A : Type 0} (f g : A → Bool) where
   pub filter-same : (l : List A) → ((x : A) → List·Memᴰ x l → f x ≡ g x) → filter f l ≡ filter g l
   filter-same [] h = refl
   filter-same (x ∷ l) h = ap (λ (b : Bool). consIf b x (filter f l)) (h x (List·Memᴰ·head refl)) ∙ ap (consIf (g x) x) (filter-same l (λ y m. h y (List·Memᴰ·tail m)))
-
-  -- a test behind a filter
-  pub all-filter : (l : List A) → all g (filter f l) ≡ all (λ x. cond (f x) (g x) true) l
-  all-filter [] = refl
-  all-filter (x ∷ l) = go (f x) (all-filter l)
-    where
-      go : (b : Bool) → all g (filter f l) ≡ all (λ y. cond (f y) (g y) true) l → all g (consIf b x (filter f l)) ≡ (cond b (g x) true && all (λ y. cond (f y) (g y) true) l)
-      go true e = ap (λ (b : Bool). g x && b) e
-      go false e = e
 
   -- two tests
   pub all-both : (l : List A) → all (λ x. f x && g x) l ≡ (all f l && all g l)

@@ -10,7 +10,7 @@ use borrow.Author.Tests.{leb-true, not-true}
 use Rattle.meaning.specs.Lists.{sumOf}
 use Rattle.meaning.specs.Schema.{Equation, Schema, source, target, attributeAt, hasLoop}
 use Rattle.meaning.specs.Sheet.{sound, onSheet}
-use Rattle.meaning.specs.Formats.{Counts, Mapping, Instance, maxNodes, maxEdges, maxAttributes, maxEquations, maxRows, countsInLimits, readEdges, readPath, readCounts, readEdge, readAttribute, readEquation, readLists, readSchema, readMapping, readInstance, readMatching, kinds}
+use Rattle.meaning.specs.Formats.{Counts, Mapping, Instance, maxNodes, maxEdges, maxAttributes, maxEquations, maxRows, countsInLimits, readEdges, readPath, readCounts, readEdge, readAttribute, readEquation, readLists, readSchema, readMapping, readTables, readInstance, readMatching, kinds}
 use Rattle.meaning.specs.Views.{Shaped, count, link, value, edgeImage}
 use Rattle.meaning.specs.Category.{Category}
 use Rattle.meaning.specs.Judge.{isWellFormed, hasFewPaths, testSchema, judgeSchema, judgeMapping, judgeInstance, imagesFit, keepsEquations, linksInRange, valuesInRange, obeysEquations}
@@ -189,28 +189,40 @@ record InstanceRead (S : Schema) (I : Instance) : Type 0 where
   fits-fields : FitsFields I
   few-rows : sumOf (I .counts) ≤ maxRows
 
-gives-instance : (S : Schema) → Gives (readInstance S) (InstanceRead S)
-gives-instance S =
-    gives-bind (gives-times (S .graph .nodes) (gives-field 10)) (λ counts n.
-    gives-bind (gives-ensure (leb (sumOf counts) maxRows) 3) (λ _ few.
+-- what follows the leading counts
+pub record TablesRead (S : Schema) (counts : List ℕ) (I : Instance) : Type 0 where
+  pub counts-are : I .counts ≡ counts
+  pub shaped : Shaped S I
+  pub link-below : (e r : ℕ) → link I e r < 2 ^ 9
+  pub value-below : (a r : ℕ) → value I a r < 2 ^ 32
+
+pub gives-tables : (S : Schema) (counts : List ℕ) → length counts ≡ S .graph .nodes → Gives (readTables S counts) (TablesRead S counts)
+gives-tables S counts n =
     gives-bind (gives-inTurn (λ e. gives-times (getD counts (e .source) 0) (gives-field 9)) (S .graph .edges)) (λ ls l.
     gives-bind (gives-inTurn (λ a. gives-times (getD counts (a .node) 0) (gives-field 32)) (S .attributes)) (λ vs v.
     gives-bind gives-finish (λ _ _.
     gives-give (record {
+      counts-are = refl;
       shaped = record {
-        tables = n .0;
+        tables = n;
         edges = pointwise-length l;
         attributes = pointwise-length v;
         links = λ e i. pointwise-at l (record { source = 0; target = 0 }) [] e i .0;
         values = λ a i. pointwise-at v (record { node = 0; kind = 0 }) [] a i .0;
       };
-      fits-fields = record {
-        count-below = every-at (n .1) 0 (omega arith);
-        link-below = λ e r. every-at (every-at (pointwise-every (λ x y h. h .1) l) [] none e) 0 (omega arith) r;
-        value-below = λ a r. every-at (every-at (pointwise-every (λ x y h. h .1) v) [] none a) 0 (omega arith) r;
-      };
-      few-rows = leb-true (sumOf counts) maxRows few;
-    }))))))
+      link-below = λ e r. every-at (every-at (pointwise-every (λ x y h. h .1) l) [] none e) 0 (omega arith) r;
+      value-below = λ a r. every-at (every-at (pointwise-every (λ x y h. h .1) v) [] none a) 0 (omega arith) r;
+    }))))
+
+gives-instance : (S : Schema) → Gives (readInstance S) (InstanceRead S)
+gives-instance S =
+    gives-bind (gives-times (S .graph .nodes) (gives-field 10)) (λ counts n.
+    gives-bind (gives-ensure (leb (sumOf counts) maxRows) 3) (λ _ few.
+    gives-as (gives-tables S counts (n .0)) (λ I t. record {
+      shaped = t .shaped;
+      fits-fields = record { count-below = λ c. rw (t .counts-are) (every-at (n .1) 0 (omega arith) c); link-below = t .link-below; value-below = t .value-below };
+      few-rows = rw (t .counts-are) (leb-true (sumOf counts) maxRows few);
+    })))
 
 module _ (S : Schema) (s : List ℕ) where
   instance-passed : {I : Instance} → judgeInstance S s ≡ sound I → (onSheet (readInstance S) s ≡ sound I) × (linksInRange S I ≡ true) × (valuesInRange kinds S I ≡ true) × (obeysEquations S I ≡ true)

@@ -20,3 +20,4 @@ pub mod TailCase
 pub mod Cases
 pub mod MoreCases
 pub mod QueryCases
+pub mod ChangeCases

@@ -44,7 +44,7 @@ abbrev pub ensure : Bool → ℕ → Outcome (Unit {0})
 ensure true n = accepted tt
 ensure false n = refused n 0
 
--- 15 (overfull): a migrated instance has at most 512 rows
+-- 15 (overfull): a migrated instance, or a changed run, has at most 512 rows
 abbrev pub ensureFits : Instance → Outcome Instance
 ensureFits J = do
   _ ← ensure (leb (sumOf (J .counts)) maxRows) 15

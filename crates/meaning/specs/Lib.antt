@@ -15,4 +15,6 @@ pub mod Pi
 pub mod Matching
 pub mod Calls
 pub mod Query
+pub mod Rows
+pub mod Changes
 pub mod Program

@@ -59,6 +59,10 @@ rows I c = upto (count I c)
 abbrev pub link : Instance → ℕ → ℕ → ℕ
 link I e r = getD (getD (I .links) e []) r 0
 
+-- the links along edge e, row by row
+abbrev pub linkColumn : Instance → ℕ → List ℕ
+linkColumn I e = getD (I .links) e []
+
 abbrev pub column : Instance → ℕ → List ℕ
 column I a = getD (I .values) a []
 

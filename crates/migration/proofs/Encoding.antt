@@ -1,11 +1,11 @@
 -- The number that an export gives, taken apart, is the call's outcome: refusals are numbered below 256, and results are below 2^32.
 use Prim.Native.Nat.{ℕ, _+_, _*_, _/_, _%_, _<_, _≤_}
-use mathlib.Core.Path.{_≡_, refl, sym, ap, _∙_}
+use mathlib.Core.Path.{_≡_, refl, sym, ap, _∙_, Σ-path}
 use mathlib.Core.Bool.{Bool, true, _&&_}
 use mathlib.Core.List.{List, []}
 use native.Mathlib.Omega.{arith}
 use native.Mathlib.Decide.{decLt}
-use lib.ListN.{length}
+use lib.ListN.{length, take}
 use lib.Dec.{ltb}
 use borrow.Author.Tests.{ltb-true, lt-ltb, le-ltb}
 use Rattle.theory.specs.Matching.{partner, partners}
@@ -18,6 +18,7 @@ use Rattle.meaning.specs.Views.{schemaOf, mappingOf, instanceOf}
 use Rattle.meaning.specs.Judge.{judgePath, judgeSchema}
 use Rattle.meaning.specs.Calls.{Outcome, refused, accepted, _>>=_, pathQuestion, pathChain, deltaTables, sigmaTables, piTables, sheetOf, Sides, sides, judgePushed, judgeRaw, pushedToRaw, rawToPushed, inTray, rawSheet, pushedSheet}
 use Rattle.meaning.specs.Query.{queryTables}
+use Rattle.meaning.specs.Changes.{Sheets, additionSheets, withdrawalSheets, inTrays}
 use Rattle.meaning.proofs.Lists.{all-of}
 use Rattle.meaning.proofs.Tabulate.{and-both}
 use Rattle.meaning.proofs.Facts.{schema-facts}
@@ -25,6 +26,7 @@ use Rattle.meaning.proofs.Written.{path-sheet-length, matching-sheet-length, ch
 use Rattle.agreement.specs.Paths.{EqualPaths}
 use Rattle.agreement.specs.PathChains.{ChainAnswers}
 use Rattle.agreement.specs.Tests.{Refusal, Tests, Decides}
+use Rattle.agreement.specs.Changes.{ChangeAgrees}
 use Rattle.agreement.proofs.Tests.{accepted-same, decides-giving, refused-in}
 use Rattle.agreement.proofs.Paths.{path-short}
 use Rattle.agreement.proofs.Categories.{schema-well-formed}
@@ -38,8 +40,10 @@ use Rattle.agreement.proofs.Evenness.{even-iff}
 use Rattle.agreement.proofs.Sigma.{sigma-valid}
 use Rattle.agreement.proofs.Agrees.{lendable-within, sheet-within, delta-agrees, sigma-agrees, pi-agrees}
 use Rattle.agreement.proofs.Query.{query-agrees}
+use Rattle.agreement.proofs.ChangeTests.{addRow-answer, withdrawRow-answer, accepted-trays}
+use Rattle.agreement.proofs.Changes.{row-added, row-withdrawn}
 use Rattle.migration.specs.Answers.{checked}
-use Rattle.migration.specs.Encoding.{Says, ExportsSay, maxPathBytes, maxMatchingBytes, maxChainBytes, Within, ResultsWithin}
+use Rattle.migration.specs.Encoding.{Says, SaysLengths, ExportsSay, maxPathBytes, maxMatchingBytes, maxChainBytes, Within, BothWithin, ResultsWithin}
 
 -- ---- byte lengths
 
@@ -116,16 +120,28 @@ chain-within s p q bytes e =
     let c = sheet-accepted 3 (judgePath (a .0 .graph) q) _ (b .2) in
     answer-within (chain-answers s p q (a .1) (b .1) (c .1)) bytes e
 
+sigma-within : (s t f i : List ℕ) → Within maxInstanceBytes (sheetOf (sigmaTables s t f i))
+sigma-within s t f i = sheet-within (sigmaTables s t f i) maxInstanceBytes (λ M e. let a = sigma-agrees s t f i e in lendable-within t (a .inputs .T-accepted) (a .lendable))
+
+-- both sheets of a changed run
+change-within : {s t f i : List ℕ} {w : Sheets} → ChangeAgrees s t f i w → (length (w .run) ≤ maxInstanceBytes) × (length (w .pushed) ≤ maxInstanceBytes)
+change-within {s} {t} {f} {w = w} x = (
+  rw (x .run-sheet) (lendable-within s (x .inputs .S-accepted) (x .lendable)),
+  sigma-within s t f (w .run) (w .pushed) (ap sheetOf (x .pushed-by-call) ∙ ap accepted (sym (x .pushed-sheet))),
+)
+
 pub results-within : ResultsWithin
 results-within = record {
   first-path = path-within;
   path-chain = chain-within;
   delta = λ s t f j. sheet-within (deltaTables s t f j) maxInstanceBytes (λ M e. let a = delta-agrees s t f j e in lendable-within s (a .inputs .S-accepted) (a .lendable));
-  sigma = λ s t f i. sheet-within (sigmaTables s t f i) maxInstanceBytes (λ M e. let a = sigma-agrees s t f i e in lendable-within t (a .inputs .T-accepted) (a .lendable));
+  sigma = sigma-within;
   pi = λ s t f i. sheet-within (piTables s t f i) maxInstanceBytes (λ M e. let a = pi-agrees s t f i e in lendable-within t (a .inputs .T-accepted) (a .lendable));
   query = λ s1 s2 s3 s4 f g h i. sheet-within (queryTables s1 s2 s3 s4 f g h i) maxInstanceBytes (λ M e.
       let a = query-agrees s1 s2 s3 s4 f g h i e in
       lendable-within s4 (a .inputs .S4-accepted) (a .lendable));
+  row-added = λ s t f i c row w e. change-within (row-added s t f i c row e .0);
+  row-withdrawn = λ s t f i c r w e. change-within (row-withdrawn s t f i c r e .0);
   pushed-to-raw = λ s t f i j k. turned-within s t f i j (λ x. judgePushed x k) rawSheet (λ x h l. raw-within h l);
   raw-to-pushed = λ s t f i j k. turned-within s t f i j (λ x. judgeRaw x k) pushedSheet (λ x h l. pushed-within h l);
 }
@@ -165,6 +181,28 @@ module _ {rs : List Refusal} {t : Tests ℕ rs} (tray : List ℕ) (o : Outcome (
       let r = accepted-tray tray o e in
       omega (arith, w (r .bytes) (r .result), r .size))
 
+-- two byte lengths
+lengths-apart : (n k : ℕ) → k < 65536 → _≡_ {A = ℕ × ℕ} ((65536 * n + k) / 65536, (65536 * n + k) % 65536) (n, k)
+lengths-apart n k h = Σ-path (omega arith) (omega arith)
+
+says-lengths : {rs : List Refusal} {t : Tests (ℕ × ℕ) rs} (o : Outcome (ℕ × ℕ)) → Decides t o → all low rs ≡ true
+    → ((n k : ℕ) → o ≡ accepted (n, k) → (n ≤ maxInstanceBytes) × (k ≤ maxInstanceBytes)) → SaysLengths o
+says-lengths {rs} (refused n p) D l h =
+    let b = and-both (ltb n 256) (ltb p 256) (all-of low rs l (refused-in D (n, p) refl)) in
+    ap (λ (o : Outcome ℕ). o >>= λ k. accepted (k / 65536, k % 65536)) (say-refusal n p (ltb-true n 256 (b .0)) (ltb-true p 256 (b .1)))
+says-lengths (accepted (n, k)) D l h =
+    let b = h n k refl in
+    ap (λ (o : Outcome ℕ). o >>= λ k. accepted (k / 65536, k % 65536)) (say-result (65536 * n + k) (omega (arith, b .0, b .1)))
+    ∙ ap accepted (lengths-apart n k (omega (arith, b .1)))
+
+-- two results in their trays
+module _ {rs : List Refusal} {t : Tests (ℕ × ℕ) rs} (run pushed : List ℕ) (o : Outcome Sheets) where
+  says-sheets : Decides t (inTrays run pushed o .answer) → all low rs ≡ true → BothWithin maxInstanceBytes o → SaysLengths (inTrays run pushed o .answer)
+  says-sheets D l w = says-lengths (inTrays run pushed o .answer) D l (λ n k e.
+      let r = accepted-trays run pushed o e in
+      let b = w (r .sheets) (r .result) in
+      (omega (arith, b .0, r .run-size), omega (arith, b .1, r .pushed-size)))
+
 pub exports-say : ExportsSay
 exports-say = record {
   check-schema = λ s. says-check (checkSchema-decided s) refl;
@@ -176,6 +214,8 @@ exports-say = record {
   sigma = λ s t f i tray. says-bytes tray (sheetOf (sigmaTables s t f i)) maxInstanceBytes (sigma-answer tray s t f i) refl (results-within .sigma s t f i) (omega arith);
   pi = λ s t f i tray. says-bytes tray (sheetOf (piTables s t f i)) maxInstanceBytes (pi-answer tray s t f i) refl (results-within .pi s t f i) (omega arith);
   query = λ s1 s2 s3 s4 f g h i tray. says-bytes tray (sheetOf (queryTables s1 s2 s3 s4 f g h i)) maxInstanceBytes (query-answer tray s1 s2 s3 s4 f g h i) refl (results-within .query s1 s2 s3 s4 f g h i) (omega arith);
+  add-row = λ s t f run n c row pushed. says-sheets run pushed (additionSheets s t f (take n run) c row) (addRow-answer s t f run n c row pushed) refl (results-within .row-added s t f (take n run) c row);
+  withdraw-row = λ s t f run n c r pushed. says-sheets run pushed (withdrawalSheets s t f (take n run) c r) (withdrawRow-answer s t f run n c r pushed) refl (results-within .row-withdrawn s t f (take n run) c r);
   check-pushed = λ s t f i j k. says-check (checkPushed-decided s t f i j k) refl;
   check-raw = λ s t f i j k. says-check (checkRaw-decided s t f i j k) refl;
   pushed-to-raw = λ s t f i j k tray. says-bytes tray (pushedToRaw s t f i j k) maxMatchingBytes (pushedToRaw-answer tray s t f i j k) refl (results-within .pushed-to-raw s t f i j k) (omega arith);

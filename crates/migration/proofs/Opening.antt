@@ -17,30 +17,10 @@ use Rattle.steps.specs.declared.Refusal.{Refusal}
 use Rattle.steps.specs.declared.open.Opened.{Opened}
 use Rattle.steps.specs.Answers.{orNext, outcomeOf}
 use Rattle.steps.specs.Opened.{migrationOf, Ready, Opens}
-use Rattle.steps.specs.Runs.{RunInput, runInput, runInputOf, RunSays}
 use Rattle.migration.specs.Sides.{Inputs, inputs, SidesSay}
 use Rattle.steps.proofs.Refusing.{refusal, judged-at, then, yields, tested, or-none, or-some, or-assoc, none-first, none-next}
 use Rattle.steps.proofs.Opening.{passed}
 
--- ---- a mapping and a run
-module _ (o : Opened) {M : Outcome Migration} (O : Opens o M) (run : Instance) (links values i : List ℕ) (I : Tested (o .source) run links values (judgeInstance (schemaOf (o .source)) i)) where
-  abbrev run-input : RunInput
-  run-input = runInputOf o run links values
-
-  pub run-open : {r : Refusal} → r ≡ orNext (o .refusal) (refusal (run .fault) 4) → RunSays o r run links values (runInput M i)
-  run-open {r} e = record {
-    says = ap (λ (r : Refusal). outcomeOf r run-input) e ∙
-        then (o .refusal) (migrationOf o) (O .says) (refusal (run .fault) 4) run-input (λ m. do
-          I ← at 4 (judgeInstance (m .S) i)
-          accepted (record { m = m; run = I }))
-        (yields (refusal (run .fault) 4) (run-input .run) (judged-at (run .fault) 4 (run-input .run) (I .says)) (λ I. record { m = migrationOf o; run = I }));
-    schemas = O .schemas;
-    limits = I .limits;
-    ready = λ z. O .ready (none-first (o .refusal) (refusal (run .fault) 4) (ap (λ (r : Refusal). r .number) (sym e) ∙ z));
-    accepted = λ z. I .accepted (none-next (o .refusal) (refusal (run .fault) 4) (ap (λ (r : Refusal). r .number) (sym e) ∙ z));
-  }
-
--- ---- a mapping, a run and a book
 module _ (o : Opened) {M : Outcome Migration} (O : Opens o M) (run book : Instance) (links values links′ values′ i j : List ℕ)
     (I : Tested (o .source) run links values (judgeInstance (schemaOf (o .source)) i)) (J : Tested (o .target) book links′ values′ (judgeInstance (schemaOf (o .target)) j)) where
   abbrev is-even : Bool

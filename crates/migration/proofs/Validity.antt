@@ -24,7 +24,8 @@ use Rattle.mapping.specs.declared.Mapping.{Mapping}
 use Rattle.mapping.specs.Decoded.{mappingOf}
 use Rattle.migration.specs.declared.sides.Sides.{Sides}
 use Rattle.migration.specs.Sides.{Migratable}
-use Rattle.steps.proofs.Validity.{accepted-valid, ready-valid}
+use Rattle.instance.proofs.Validity.{accepted-valid}
+use Rattle.steps.proofs.Validity.{ready-valid}
 
 -- ---- the run and its Sigma
 

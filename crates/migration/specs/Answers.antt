@@ -65,6 +65,12 @@ checked o = do
   _ ← o
   accepted 0
 
+-- two byte lengths, both below 65,536
+abbrev pub lengthsNumber : Outcome (ℕ × ℕ) → Outcome ℕ
+lengthsNumber o = do
+  x ← o
+  accepted (65536 * x .0 + x .1)
+
 -- a byte length, and the tray
 abbrev pub returned : Lent → ℕ × List ℕ
 returned l = (encoded (l .answer), l .tray)

@@ -7,9 +7,10 @@ use mathlib.Core.List.{List}
 use lib.ListN.{length}
 use lib.Dec.{ltb}
 use Rattle.meaning.specs.Formats.{maxInstanceBytes}
-use Rattle.meaning.specs.Calls.{Outcome, refused, accepted, checkSchema, checkMapping, checkInstance, pathQuestion, pathChain, deltaTables, sigmaTables, piTables, sheetOf, checkPushed, checkRaw, pushedToRaw, rawToPushed, inTray}
+use Rattle.meaning.specs.Calls.{Outcome, refused, accepted, _>>=_, checkSchema, checkMapping, checkInstance, pathQuestion, pathChain, deltaTables, sigmaTables, piTables, sheetOf, checkPushed, checkRaw, pushedToRaw, rawToPushed, inTray}
 use Rattle.meaning.specs.Query.{queryTables}
-use Rattle.migration.specs.Answers.{encoded, checked}
+use Rattle.meaning.specs.Changes.{Sheets, additionSheets, withdrawalSheets, addRow, withdrawRow}
+use Rattle.migration.specs.Answers.{encoded, checked, lengthsNumber}
 
 -- below 2^32 a result; else the number in bits 8 to 15, the place in bits 0 to 7
 abbrev pub decoded : ℕ → Outcome ℕ
@@ -17,6 +18,15 @@ decoded n = cond (ltb n 4294967296) (accepted n) (refused (n / 256 % 256) (n % 2
 
 abbrev pub Says : Outcome ℕ → Type 0
 Says o = decoded (encoded o) ≡ o
+
+-- a result of two byte lengths: the first is the number without its 16 low bits, which are the second
+abbrev pub decodedLengths : ℕ → Outcome (ℕ × ℕ)
+decodedLengths n = do
+  k ← decoded n
+  accepted (k / 65536, k % 65536)
+
+abbrev pub SaysLengths : Outcome (ℕ × ℕ) → Type 0
+SaysLengths o = decodedLengths (encoded (lengthsNumber o)) ≡ o
 
 pub record ExportsSay : Type 0 where
   pub check-schema : (s : List ℕ) → Says (checked (checkSchema s))
@@ -28,6 +38,8 @@ pub record ExportsSay : Type 0 where
   pub sigma : (s t f i tray : List ℕ) → Says (inTray tray (sheetOf (sigmaTables s t f i)) .answer)
   pub pi : (s t f i tray : List ℕ) → Says (inTray tray (sheetOf (piTables s t f i)) .answer)
   pub query : (s1 s2 s3 s4 f g h i tray : List ℕ) → Says (inTray tray (sheetOf (queryTables s1 s2 s3 s4 f g h i)) .answer)
+  pub add-row : (s t f run : List ℕ) (n c : ℕ) (row pushed : List ℕ) → SaysLengths (addRow s t f run n c row pushed .answer)
+  pub withdraw-row : (s t f run : List ℕ) (n c r : ℕ) (pushed : List ℕ) → SaysLengths (withdrawRow s t f run n c r pushed .answer)
   pub check-pushed : (s t f i j k : List ℕ) → Says (checked (checkPushed s t f i j k))
   pub check-raw : (s t f i j k : List ℕ) → Says (checked (checkRaw s t f i j k))
   pub pushed-to-raw : (s t f i j k tray : List ℕ) → Says (inTray tray (pushedToRaw s t f i j k) .answer)
@@ -51,6 +63,10 @@ maxChainBytes = 320
 abbrev pub Within : ℕ → Outcome (List ℕ) → Type 0
 Within n o = (bytes : List ℕ) → o ≡ accepted bytes → length bytes ≤ n
 
+-- both results of a change have at most n bytes each
+abbrev pub BothWithin : ℕ → Outcome Sheets → Type 0
+BothWithin n o = (x : Sheets) → o ≡ accepted x → (length (x .run) ≤ n) × (length (x .pushed) ≤ n)
+
 pub record ResultsWithin : Type 0 where
   pub first-path : (s p : List ℕ) → Within maxPathBytes (pathQuestion s p)
   pub path-chain : (s p q : List ℕ) → Within maxChainBytes (pathChain s p q)
@@ -58,5 +74,7 @@ pub record ResultsWithin : Type 0 where
   pub sigma : (s t f i : List ℕ) → Within maxInstanceBytes (sheetOf (sigmaTables s t f i))
   pub pi : (s t f i : List ℕ) → Within maxInstanceBytes (sheetOf (piTables s t f i))
   pub query : (s1 s2 s3 s4 f g h i : List ℕ) → Within maxInstanceBytes (sheetOf (queryTables s1 s2 s3 s4 f g h i))
+  pub row-added : (s t f i : List ℕ) (c : ℕ) (row : List ℕ) → BothWithin maxInstanceBytes (additionSheets s t f i c row)
+  pub row-withdrawn : (s t f i : List ℕ) (c r : ℕ) → BothWithin maxInstanceBytes (withdrawalSheets s t f i c r)
   pub pushed-to-raw : (s t f i j k : List ℕ) → Within maxMatchingBytes (pushedToRaw s t f i j k)
   pub raw-to-pushed : (s t f i j k : List ℕ) → Within maxMatchingBytes (rawToPushed s t f i j k)

@@ -22,7 +22,7 @@ ghost use Rattle.migration.specs.Answers.{verdictOf, explainedOf, encode
 ghost use Rattle.steps.specs.Answers.{writtenOf};
 
 // A refusal as a number.
-fn refusal_number(refusal: Refusal) -> u64
+pub fn refusal_number(refusal: Refusal) -> u64
     ensures { λ r. ⌜ r ≡ encoded (refused (refusal .number) (refusal .place)) ⌝ }
 {
     4294967296 + 256 * (refusal.number as u64) + refusal.place as u64

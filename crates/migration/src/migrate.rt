@@ -6,7 +6,7 @@ use steps::Written;
 use steps::open::Opened;
 use steps::open::have_few_columns;
 use steps::open::open;
-use steps::open::uneven;
+use steps::pushing::open_run;
 use steps::pushing::push_run;
 use steps::results::Migrated;
 use steps::results::overfull;
@@ -131,36 +131,24 @@ pub(crate) fn sigma_tables(
     requires { ⌜ IsOpened opened × RoomFor (opened .source) (now «run_links») (now «run_values») × RoomFor (opened .target) (now links) (now values) ⌝ }
     ensures { λ r. ⌜ Migrates r (now (links .exit)) (now (values .exit)) (evenlyPushed (runInput (openedOf opened) (now (i .entry)))) ⌝ }
 {
-    let source = opened.source;
-    let target = opened.target;
-    let run = judge_instance(source, i, &mut *run_links, &mut *run_values);
-    let first = opened.refusal;
-    let sheets = first.or(run.fault, 4);
-    if sheets.number == 0 {
-        let evenness = Refusal {
-            number: uneven(opened),
-            place: 0,
-        };
-        if evenness.number == 0 {
-            return push_run(
-                opened,
-                run,
-                &*run_links,
-                &*run_values,
-                &mut *links,
-                &mut *values,
-            );
-        }
-        return Migrated {
-            refusal: evenness,
-            schema: target,
-            tables: run,
-        };
+    let run = open_run(opened, i, &mut *run_links, &mut *run_values);
+    let refusal = run.refusal;
+    let tables = run.tables;
+    if refusal.number == 0 {
+        return push_run(
+            opened,
+            tables,
+            &*run_links,
+            &*run_values,
+            &mut *links,
+            &mut *values,
+        );
     }
+    let target = opened.target;
     Migrated {
-        refusal: sheets,
+        refusal: refusal,
         schema: target,
-        tables: run,
+        tables: tables,
     }
 }
 

@@ -20,7 +20,8 @@ use Rattle.agreement.proofs.Instances.{links-iff, values-iff, equations-iff}
 use Rattle.agreement.proofs.Tests.{refused-iff, accepted-iff, refused-in}
 use Rattle.agreement.proofs.Refusals.{crowd-iff, off-scale-iff}
 use Rattle.agreement.proofs.Outcomes.{checkSchema-decided, checkMapping-decided, checkInstance-decided, pathQuestion-answer, pathChain-answer, delta-answer, sigma-answer, pi-answer, query-answer, checkPushed-decided, checkRaw-decided, pushedToRaw-answer, rawToPushed-answer, refused-tray, accepted-tray}
-use Rattle.agreement.proofs.Valid.{mapping-valid, instance-accepted-iff}
+use Rattle.agreement.proofs.ChangeTests.{addRow-answer, withdrawRow-answer, refused-trays, accepted-trays, add-row-unread, withdraw-row-unread}
+use Rattle.agreement.proofs.Valid.{mapping-valid, instance-valid, instance-accepted-iff}
 use Rattle.agreement.proofs.Evenness.{even-iff}
 use Rattle.agreement.proofs.Sigma.{sigma-never-overfull}
 use Rattle.agreement.proofs.Bijections.{bijective-iff}
@@ -30,11 +31,16 @@ use Rattle.agreement.proofs.Matchings.{judgeMatching-iff}
 use Rattle.agreement.proofs.Agrees.{schema-agrees, delta-agrees, sigma-agrees, pi-agrees}
 use Rattle.agreement.proofs.Query.{query-agrees, query-sigma-fits, query-answers}
 use Rattle.agreement.proofs.Chained.{query-chained}
+use Rattle.agreement.proofs.Rows.{row-tests-decide, adds-table, adds-one}
+use Rattle.agreement.proofs.RowSheets.{row-sheet-iff}
+use Rattle.agreement.proofs.Withdrawals.{withdraws-table, withdraws-one}
 use Rattle.agreement.proofs.Demand3.{demand3, provided-iff, unprovided-refused, case3-provided}
+use Rattle.agreement.proofs.Changes.{run-answers, table-absent, addition-answers, withdrawal-answers, row-added, row-withdrawn}
+use Rattle.agreement.proofs.GivesBack.{gives-back}
 use Rattle.agreement.proofs.Framing.{push-frames, dig-frames}
 use Rattle.migration.proofs.Demand3.{calls-demand3, calls-refuse, meanings-meet}
 use Rattle.migration.proofs.Encoding.{exports-say, results-within}
-use Rattle.promises.specs.Promises.{Demand-1, Demand-2, Demand-3, C-11, C-12, C-14, C-15, Program, Header}
+use Rattle.promises.specs.Promises.{Demand-1, Demand-2, Demand-3, C-11, C-12, C-14, C-15, C-16, Program, Header}
 
 pub demand-1 : Demand-1
 demand-1 = record {
@@ -129,6 +135,29 @@ c-15 = record {
   query-answers = query-answers;
   sigma-fits = query-sigma-fits;
   chained = query-chained;
+}
+
+pub c-16 : C-16
+c-16 = record {
+  add-row = addRow-answer;
+  withdraw-row = withdrawRow-answer;
+  trays-kept = refused-trays;
+  trays-result = accepted-trays;
+  add-row-unread = add-row-unread;
+  withdraw-row-unread = withdraw-row-unread;
+  run-answers = run-answers;
+  table-absent = table-absent;
+  row-sheet = row-sheet-iff;
+  adds = λ s i {S} a b c. adds-table (schema-well-formed (schema-facts s a)) (instance-valid S i b);
+  adds-one = adds-one;
+  row-tests = λ s i {S} a b c. row-tests-decide (schema-well-formed (schema-facts s a)) (instance-valid S i b);
+  addition-answers = addition-answers;
+  withdraws = λ s i {S} a b. withdraws-table (schema-well-formed (schema-facts s a)) (instance-valid S i b);
+  withdraws-one = withdraws-one;
+  withdrawal-answers = withdrawal-answers;
+  row-added = row-added;
+  row-withdrawn = row-withdrawn;
+  gives-back = gives-back;
 }
 
 pub program : Program

@@ -1,15 +1,16 @@
 -- The promises of the three demands, of the requests of document 02, of the programs and of the C header, by demand and sentence; proofs/Promises.antt
 -- proves each under its name.
--- A call is said by its meaning, a function of lists of numbers (`meaning` specs/Calls.antt, Query.antt). That the code answers as the meaning does is each public
+-- A call is said by its meaning, a function of lists of numbers (`meaning` specs/Calls.antt, Query.antt, Changes.antt). That the code answers as the meaning does is each public
 -- call's contract, one equation with no `requires` (`migration` src/checks.rt, first.rt, explain.rt, migrate.rt, joins.rt, turnings.rt, printing.rt and exports.rt;
--- `query` src/answer.rt, printing.rt and exports.rt). The other terms stand in the specs/ of `theory` (source document 000), `meaning` (documents 01 and 02), `agreement` and `migration`.
+-- `query` src/answer.rt, printing.rt and exports.rt; `changes` src/calls.rt and exports.rt). The other terms stand in the specs/ of `theory`
+-- (source document 000), `meaning` (documents 01 and 02), `agreement` and `migration`.
 -- By definition alone, in `meaning` specs/: the fields of sheets, refusals 1, 2 and 3, the text of push and dig. The runs to check against: `meaning` proofs/Cases.antt.
 use Prim.Native.Nat.{ℕ, _<_, _≤_}
 use mathlib.Core.Path.{_≡_}
 use mathlib.Core.Bool.{true, false}
 use mathlib.Core.List.{List, List·Memᴰ}
 use mathlib.Core.Logic.{_↔_}
-use lib.ListN.{length, getD}
+use lib.ListN.{length, getD, take}
 use Rattle.bits.specs.Field.{Bytes}
 use Rattle.theory.specs.Schema.{IsSchema, IsPath, Chain}
 use Rattle.theory.specs.Instance as theory
@@ -35,15 +36,18 @@ use Rattle.meaning.specs.Pi.{isBijective, pi}
 use Rattle.meaning.specs.Matching.{judgeMatching}
 use Rattle.meaning.specs.Calls.{Outcome, refused, accepted, _>>=_, ensureFits, checkSchema, checkMapping, checkInstance, pathQuestion, pathChain, Migrated, deltaTables, sigmaTables, piTables, sheetOf, sides, rawSheet, pushedSheet, checkPushed, checkRaw, pushedToRaw, rawToPushed, inTray}
 use Rattle.meaning.specs.Query.{Query, migrateQuery, queryTables}
+use Rattle.meaning.specs.Rows.{readRow, added, withdrawn}
+use Rattle.meaning.specs.Changes.{Run, judgeRun, addition, Sheets, additionSheets, withdrawalSheets, inTrays, addRow, withdrawRow}
 use Rattle.meaning.specs.Program.{frames, push, dig}
 use Rattle.agreement.specs.Paths.{WellFormed, SameStarts, Loop, IsHeight, EqualPaths, ListsPaths, Crowded}
 use Rattle.agreement.specs.Categories.{IsCategory}
 use Rattle.agreement.specs.PathChains.{StepsAgree, ChainsAgree, IsFirstChain, ChainAnswers}
 use Rattle.agreement.specs.Tests.{Refusal, Tests, FailsAt, Pass, Decides}
-use Rattle.agreement.specs.CallTests.{checkSchemaTests, checkMappingTests, checkInstanceTests, pathQuestionTests, pathChainTests, deltaTests, sigmaTests, piTests, queryTests, pushedTests, rawTests, trayTests, sheetTests, Result}
+use Rattle.agreement.specs.CallTests.{checkSchemaTests, checkMappingTests, checkInstanceTests, pathQuestionTests, pathChainTests, deltaTests, sigmaTests, piTests, queryTests, pushedTests, rawTests, additionTests, withdrawalTests, changeTests, trayTests, sheetTests, traysTests, Result, Results}
 use Rattle.agreement.specs.Valid.{ValidMapping, ValidInstance, InRange, ImagesFit, KeepsEquations, LinksIn, ValuesIn, OffScale, ObeysEquations}
 use Rattle.agreement.specs.Agrees.{SchemaAgrees, PathAnswer, PathAnswers, Inputs, DeltaAgrees, DeltaAnswers, SigmaAgrees, SigmaAnswers, PiAgrees, PiAnswers}
 use Rattle.agreement.specs.Query.{QueryInputs, QueryAgrees, QueryAnswers, chained, SameResult}
+use Rattle.agreement.specs.Changes.{RunAnswers, IsRow, rowSheet, Adds, RowTestsDecide, AdditionAnswers, Held, Withdraws, WithdrawalAnswers, ChangeAgrees, GivesBack}
 use Rattle.agreement.specs.Demand3.{Accepts, meaningAnswers, Provided, Clauses, AllRefuse}
 use Rattle.migration.specs.Demand3.{Calls, MeetsContracts, answers, meaningCalls}
 use Rattle.migration.specs.Encoding.{ExportsSay, ResultsWithin}
@@ -219,6 +223,58 @@ pub record C-15 : Type 1 where
   -- is given may differ
   pub chained : (s1 s2 s3 s4 f g h i first second tray : List ℕ) → maxInstanceBytes ≤ length first → maxInstanceBytes ≤ length second
       → SameResult (inTray tray (sheetOf (queryTables s1 s2 s3 s4 f g h i))) (chained s1 s2 s3 s4 f g h i first second tray)
+
+-- ---- Document 02, C-16: rows that come and go
+
+pub record C-16 : Type 0 where
+  -- "S, T, mapping, run and 12 are judged first. The tests on an added row are 1, 2, 9, 10, 11, 15 in that order ..; 16, for either tray, comes last in both
+  -- changes"; "18, absent, .. before all other tests of the change; 19, still held, .. after 18; the tests of the change itself have place 0": places 1 to 4,
+  -- then at place 0; "the run in a tray with its byte length (one beyond the tray means the whole tray)" is `take n run`
+  pub add-row : (s t f run : List ℕ) (n c : ℕ) (row pushed : List ℕ)
+      → Decides (traysTests run pushed (changeTests s t f (take n run) (λ x. additionTests x c row))) (addRow s t f run n c row pushed .answer)
+  pub withdraw-row : (s t f run : List ℕ) (n c r : ℕ) (pushed : List ℕ)
+      → Decides (traysTests run pushed (changeTests s t f (take n run) (λ x. withdrawalTests x c r))) (withdrawRow s t f run n c r pushed .answer)
+  -- "a refused change leaves run and pushed sheet unchanged": no byte of either tray, of whatever is put into them, as both calls put their sheets
+  pub trays-kept : (run pushed : List ℕ) (o : Outcome Sheets) {n place : ℕ} → inTrays run pushed o .answer ≡ refused n place
+      → (inTrays run pushed o .run ≡ run) × (inTrays run pushed o .pushed ≡ pushed)
+  -- an accepted change gives both byte lengths; bytes beyond each result keep their values
+  pub trays-result : (run pushed : List ℕ) (o : Outcome Sheets) {n k : ℕ} → inTrays run pushed o .answer ≡ accepted (n, k) → Results run pushed o n k
+  -- "the pushed tray, whose old bytes are not read": the answer and the run's tray depend on its length alone
+  pub add-row-unread : (s t f run : List ℕ) (n c : ℕ) (row p q : List ℕ) → length p ≡ length q
+      → (addRow s t f run n c row p .answer ≡ addRow s t f run n c row q .answer) × (addRow s t f run n c row p .run ≡ addRow s t f run n c row q .run)
+  pub withdraw-row-unread : (s t f run : List ℕ) (n c r : ℕ) (p q : List ℕ) → length p ≡ length q
+      → (withdrawRow s t f run n c r p .answer ≡ withdrawRow s t f run n c r q .answer) × (withdrawRow s t f run n c r p .run ≡ withdrawRow s t f run n c r q .run)
+  -- on accepted sheets 12 is given exactly where the mapping is not even
+  pub run-answers : (s t f i : List ℕ) {S T : Schema} {F : Mapping} {I : Instance} → Inputs s t f i S T S F I → RunAnswers s t f i S T F I
+  -- "18, absent, the named table or row does not exist"
+  pub table-absent : (x : Run) (c : ℕ) (row : List ℕ) → (addition (x .m .S) (x .tables) c row ≡ refused 18 0) ↔ (c < x .m .S .graph .nodes → ⊥)
+  -- "an added row as a sheet (links 9 bits, then values)"
+  pub row-sheet : (S : Schema) → WellFormed S → (c : ℕ) → c < S .graph .nodes → (row : List ℕ) → Bytes row → (R : Instance)
+      → (onSheet (readRow S c) row ≡ sound R) ↔ (IsRow S c R × (row ≡ rowSheet S c R))
+  -- "Adding puts a row at its table's end with its links and values"; no other tables are I with the row added
+  pub adds : (s i : List ℕ) {S : Schema} {I : Instance} → judgeSchema s ≡ sound S → judgeInstance S i ≡ sound I → (c : ℕ) → c < S .graph .nodes
+      → {R : Instance} → IsRow S c R → Adds S I c R (added S I R)
+  pub adds-one : {S : Schema} → WellFormed S → (I : Instance) (c : ℕ) (R : Instance) {J K : Instance} → Adds S I c R J → Adds S I c R K → J ≡ K
+  -- the tests 9, 10 and 11 are those of the new row, and no other row can fail them; with 15 they are given exactly where the changed tables would be no
+  -- accepted instance of S
+  pub row-tests : (s i : List ℕ) {S : Schema} {I : Instance} → judgeSchema s ≡ sound S → judgeInstance S i ≡ sound I → (c : ℕ) → c < S .graph .nodes
+      → {R : Instance} → IsRow S c R → RowTestsDecide S I c R
+  pub addition-answers : (s t f i : List ℕ) {x : Run} → judgeRun s t f i ≡ accepted x → (c : ℕ) → c < x .m .S .graph .nodes
+      → (row : List ℕ) {R : Instance} → onSheet (readRow (x .m .S) c) row ≡ sound R → AdditionAnswers x c row (added (x .m .S) (x .tables) R)
+  -- "withdrawing takes a row out and moves later rows of that table down by one, links included"; no other tables are I without the row
+  pub withdraws : (s i : List ℕ) {S : Schema} {I : Instance} → judgeSchema s ≡ sound S → judgeInstance S i ≡ sound I → (c x : ℕ) → c < S .graph .nodes → x < count I c
+      → (Held S I c x → ⊥) → Withdraws S I c x (withdrawn S I c x)
+  pub withdraws-one : {S : Schema} → WellFormed S → (I : Instance) (c x : ℕ) {J K : Instance} → Withdraws S I c x J → Withdraws S I c x K → J ≡ K
+  -- "the named table or row does not exist"; "a row to be withdrawn that another row links to"; and no withdrawal is refused beyond these and 16
+  pub withdrawal-answers : (s t f i : List ℕ) {x : Run} → judgeRun s t f i ≡ accepted x → (c r : ℕ) → WithdrawalAnswers x c r
+  -- "After each accepted change the pushed sheet equals a fresh Sigma of the changed run, and matchings are compared for the run as it then is"
+  pub row-added : (s t f i : List ℕ) (c : ℕ) (row : List ℕ) {w : Sheets} → additionSheets s t f i c row ≡ accepted w
+      → (x : ChangeAgrees s t f i w) × (R : Instance) × (c < x .S .graph .nodes) × (onSheet (readRow (x .S) c) row ≡ sound R) × Adds (x .S) (x .before) c R (x .after)
+  pub row-withdrawn : (s t f i : List ℕ) (c r : ℕ) {w : Sheets} → withdrawalSheets s t f i c r ≡ accepted w
+      → (x : ChangeAgrees s t f i w) × (c < x .S .graph .nodes) × (r < count (x .before) c) × (Held (x .S) (x .before) c r → ⊥) × Withdraws (x .S) (x .before) c r (x .after)
+  -- withdrawing the row just added gives the first run's sheet and length back, byte for byte
+  pub gives-back : (s t f run : List ℕ) (n c : ℕ) (row pushed : List ℕ) → Bytes run → {a b : ℕ} → addRow s t f run n c row pushed .answer ≡ accepted (a, b)
+      → GivesBack s t f run n c row pushed a
 
 -- ---- The programs push and dig
 

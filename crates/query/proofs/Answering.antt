@@ -21,7 +21,7 @@ use Rattle.steps.specs.Answers.{orNext, outcomeOf}
 use Rattle.steps.specs.Migrated.{Migrates}
 use Rattle.steps.proofs.Refusing.{refusal, no-refusal, judged-at, then, yields, stops, bind-assoc, none-first, none-next}
 use Rattle.steps.proofs.Sizes.{stopped}
-use Rattle.steps.proofs.Validity.{accepted-valid}
+use Rattle.instance.proofs.Validity.{accepted-valid}
 use Rattle.query.specs.declared.open.Query.{Query}
 use Rattle.query.specs.Opened.{queryOf, openedOf, paired, narrow, isEven, testNumber, Ready, Opens, IsOpened, Tested}
 use Rattle.query.specs.Steps.{answered, Migratable}

@@ -2,14 +2,13 @@
 use Prim.Native.Nat.{ℕ, zero, suc, _+_, _*_, _/_, _%_, _≤_, _<_}
 use mathlib.Core.Path.{_≡_, refl, sym, ap, ap₂, subst, _∙_}
 use mathlib.Core.Bool.{Bool, true, false}
-use mathlib.Core.List.{List, [], _∷_, _++_, map, append-nil}
+use mathlib.Core.List.{List, [], _++_, map, append-nil}
 use native.Mathlib.Omega.{arith}
 use native.Mathlib.Numerals.{add-one}
 use native.Mathlib.Decide.{ℕ-discrete}
 use borrow.Author.Tests.{eq-eqb, ne-eqb}
 use lib.ListN.{length, getD}
 use lib.Dec.{ltb, eqb}
-use Rattle.theory.specs.Numbering.{tabulate}
 use Rattle.theory.specs.Schema.{IsPath, endpoint}
 use Rattle.theory.specs.Instance as theory
 use Rattle.theory.specs.Mapping.{Even}
@@ -23,7 +22,7 @@ use Rattle.meaning.specs.Views.{nodeImage, count, column, follow}
 use Rattle.meaning.specs.Views as views
 use Rattle.meaning.specs.Sigma.{fibreBelow, fibre, lift, linksAlong, attributeOver, firstRow}
 use Rattle.meaning.proofs.PathLevels.{concatMap-append}
-use Rattle.meaning.proofs.Tabulate.{tabulate-same, tabulate-upto, and-both}
+use Rattle.meaning.proofs.Tabulate.{tabulate-same, tabulate-upto, and-both, tabulate-plus}
 use Rattle.agreement.proofs.Paths.{path-iff, path-short}
 use Rattle.agreement.proofs.Mappings.{mapping-is}
 use Rattle.agreement.specs.Valid.{ValidMapping}
@@ -53,12 +52,6 @@ use Rattle.sigma.specs.Pushed.{Counted, AllLead, AllOver, Pushable, sigm
 use Rattle.sigma.proofs.Joining.{before-more, before-skip, joined-room}
 
 -- ---- a joined list, node by node
-tabulate-plus : {A : Type 0} (a b : ℕ) (f : ℕ → A) → tabulate (a + b) f ≡ tabulate a f ++ tabulate b (λ i. f (a + i))
-tabulate-plus {A} zero b f = ap (λ (n : ℕ). tabulate n f) (let e : 0 + b ≡ b = omega arith in e) ∙ tabulate-same b (λ i l. ap f (let e : i ≡ 0 + i = omega arith in e))
-tabulate-plus {A} (suc a) b f =
-    ap (λ (n : ℕ). tabulate n f) (let e : suc a + b ≡ suc (a + b) = omega arith in e)
-    ∙ ap (λ (l : List A). f 0 ∷ l) (tabulate-plus a b (λ i. f (suc i)) ∙ ap (λ (l : List A). tabulate a (λ i. f (suc i)) ++ l) (tabulate-same b (λ i l. ap f (let e : suc (a + i) ≡ suc a + i = omega arith in e))))
-
 module _ (F : formats.Mapping) (node counts : List ℕ) (d : ℕ) (f : ℕ → List ℕ) (base : ℕ) (r : List ℕ) where
   -- the rows of c, where they stand in r
   abbrev rowsFrom : ℕ → List ℕ

@@ -1,63 +1,20 @@
--- Accepted sheets in working arrays are valid, as `agreement` has it.
-use Prim.Native.Nat.{ℕ, _*_, _+_, _<_}
-use mathlib.Core.Path.{_≡_, sym, ap, _∙_}
-use mathlib.Core.List.{List, []}
-use lib.ListN.{length, getD}
-use Rattle.theory.proofs.Numbering.{tabulate-length, tabulate-getD}
-use Rattle.meaning.specs.Schema.{Attribute}
-use Rattle.meaning.specs.Formats as formats
-use Rattle.meaning.specs.Formats.{kinds}
-use Rattle.meaning.specs.Views.{Shaped, count}
-use Rattle.agreement.proofs.Instances.{instance-is}
+-- An accepted mapping that was opened is valid, as `agreement` has it.
+use mathlib.Core.Path.{sym, _∙_}
+use lib.ListN.{getD}
+use Rattle.theory.proofs.Numbering.{tabulate-length}
 use Rattle.agreement.proofs.Categories.{listed-category}
 use Rattle.agreement.proofs.Mappings.{mapping-is}
-use Rattle.agreement.specs.Valid.{ValidMapping, ValidInstance}
+use Rattle.agreement.specs.Valid.{ValidMapping}
 use Rattle.schema.specs.declared.Schema.{Schema}
 use Rattle.schema.specs.Decoded.{schemaOf, categoryOf}
 use Rattle.schema.specs.Judged.{Sound}
-use Rattle.schema.proofs.GraphEdges.{edges-count, source-at}
-use Rattle.schema.proofs.SoundSchema.{source-in, home-in}
 use Rattle.paths.proofs.TablePaths.{formed}
-use Rattle.instance.specs.declared.Instance.{Instance}
-use Rattle.instance.specs.Decoded.{rowsOf, columnOf, columnsOf, tablesOf, Limits}
-use Rattle.instance.specs.Tested.{Accepted}
-use Rattle.instance.proofs.Following.{count-at}
 use Rattle.mapping.specs.declared.Mapping.{Mapping}
 use Rattle.mapping.specs.Decoded.{mappingOf}
 use Rattle.mapping.specs.Judged as mapping
-use Rattle.mapping.proofs.Viewing.{attributes-count, attribute-is}
+use Rattle.mapping.proofs.Viewing.{attributes-count}
 use Rattle.steps.specs.declared.open.Opened.{Opened}
 use Rattle.steps.specs.Opened.{Ready}
-
--- ---- an instance
-
-module _ {t : Schema} (A : Sound t) (i : Instance) (links values : List ℕ) where
-  abbrev I : formats.Instance
-  I = tablesOf t i links values
-
-  column-length : (n : ℕ) (rows : ℕ → ℕ) (l : List ℕ) (k : ℕ) → k < n → length (getD (columnsOf n rows l) k []) ≡ rows k
-  column-length n rows l k h =
-      ap length (tabulate-getD n (λ j. columnOf l (512 * j) (rows j)) [] k h) ∙ tabulate-length (rows k) (λ r. getD l (512 * k + r) 0)
-
-  shaped : Shaped (schemaOf t) I
-  shaped = record {
-    tables = tabulate-length (t .graph .nodes) (λ k. getD (i .counts) k 0);
-    edges = tabulate-length (t .graph .edges) (λ k. columnOf links (512 * k) (rowsOf (t .graph .source) (i .counts) k)) ∙ sym (edges-count (t .graph .edges) (t .graph .source) (t .graph .target));
-    attributes = tabulate-length (t .attributes) (λ k. columnOf values (512 * k) (rowsOf (t .node) (i .counts) k)) ∙ sym (attributes-count t);
-    links = λ e l.
-        let h : e < t .graph .edges = rw (edges-count (t .graph .edges) (t .graph .source) (t .graph .target)) at l in
-        column-length (t .graph .edges) (rowsOf (t .graph .source) (i .counts)) links e h
-        ∙ sym (ap (count I) (source-at (t .graph .edges) (t .graph .source) (t .graph .target) e h) ∙ count-at t A i links values (getD (t .graph .source) e 0) (source-in t A e h));
-    values = λ a l.
-        let h : a < t .attributes = rw (attributes-count t) at l in
-        column-length (t .attributes) (rowsOf (t .node) (i .counts)) values a h
-        ∙ sym (ap (λ (x : Attribute). count I (x .node)) (attribute-is t a h) ∙ count-at t A i links values (getD (t .node) a 0) (home-in t A a h));
-  }
-
-  pub accepted-valid : Limits t i → Accepted t i links values → ValidInstance (schemaOf t) I
-  accepted-valid L H = record { shaped = shaped; is = instance-is kinds (schemaOf t) I shaped (H .links-in) (H .values-in) (H .obeys); few-rows = L .rows }
-
--- ---- a mapping
 
 pub sound-valid : {s t : Schema} {f : Mapping} → Sound s → Sound t → mapping.Sound s t f → ValidMapping (categoryOf s) (categoryOf t) (mappingOf s f)
 sound-valid {s} {t} {f} S T F =

@@ -9,7 +9,7 @@ pub mod tests;
 ghost use mathlib.Core.Path.{_≡_};
 ghost use Rattle.steps.specs.Answers.{orNext, firstRefusal};
 
-// Why a call refuses: a number from 1 to 17 and the place of the sheet that it is about, counted from 1, or 0 for all sheets together.
+// Why a call refuses: a number from 1 to 19 and the place of the sheet that it is about, counted from 1, or 0 for all sheets together and for a change itself.
 // Inside the library the number 0 is no refusal.
 pub struct Refusal {
     pub number: u8,
@@ -34,6 +34,12 @@ impl Refusal {
 
     // A list that is not a matching.
     pub const NO_MATCH: u8 = 17;
+
+    // A table or a row that does not exist.
+    pub const ABSENT: u8 = 18;
+
+    // A row to which another row links.
+    pub const HELD: u8 = 19;
 
     // The refusal of the first of three sheets, at places 1, 2 and 3, that has one.
     pub fn first(a: u8, b: u8, c: u8) -> Refusal

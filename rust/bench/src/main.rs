@@ -50,10 +50,27 @@ fn answers(who: Who, call: Call) -> bool {
     }
 }
 
-/// A tray for a version of a call: in turn, one for each of the three results.
-fn tray(who: Who, case: &Case) -> Vec<u8> {
-    let trays = if who == Who::InTurn { 3 } else { 1 };
-    vec![0; trays * case.tray]
+/// The trays that a version of a call is lent.
+struct Trays {
+    /// The result's; in turn, one for each of the three results.
+    result: Vec<u8>,
+    /// Of a change the run's, whose bytes it reads and changes; else empty.
+    run: Vec<u8>,
+}
+
+impl Trays {
+    fn new(who: Who, case: &Case) -> Self {
+        let count = if who == Who::InTurn { 3 } else { 1 };
+        Trays { result: vec![0; count * case.tray], run: case.run_before().unwrap_or_default() }
+    }
+
+    /// The run of a change as it was before.
+    fn restore(&mut self, case: &Case) {
+        if case.call.is_change() {
+            let run = case.sheet(3);
+            self.run[..run.len()].copy_from_slice(run);
+        }
+    }
 }
 
 /// The query by the three calls of the library, in a tray for each.
@@ -66,15 +83,29 @@ fn in_turn(sheets: &[Vec<u8>], tray: &mut [u8]) -> Result<usize, Refusal> {
     sigma_into(s3, s4, h, &joined[..length], united)
 }
 
+/// A call by the reference.  It has a frame of its own, so that those of the library find
+/// the stack as they would without it.
+#[inline(never)]
+fn referred(case: &Case) -> bool {
+    reference_outcome(case).answer.is_ok()
+}
+
+/// A change of a run by the library; the same holds of it.
+#[inline(never)]
+fn changed(case: &Case, run: &mut [u8], tray: &mut [u8]) -> bool {
+    differential::make(case, run, tray).is_ok()
+}
+
 /// One call.  Its name is what the counter of instructions looks for.
 #[inline(never)]
-fn measured(who: Who, case: &Case, tray: &mut [u8]) -> bool {
+fn measured(who: Who, case: &Case, tray: &mut [u8], run: &mut [u8]) -> bool {
     match (who, case.call, case.sheets.as_slice()) {
+        (Who::Library, Call::AddRow | Call::WithdrawRow, _) => changed(case, run, tray),
         (Who::Library, call, sheets) => differential::call(call, sheets, tray).is_ok(),
         (Who::InTurn, _, sheets) => in_turn(sheets, tray).is_ok(),
         (Who::Plain, Call::CheckInstance, [s, i]) => plain::check_instance(s, i).is_ok(),
         (Who::Plain, _, [s, t, f, i]) => plain::sigma(s, t, f, i, tray).is_ok(),
-        _ => reference_outcome(case).answer.is_ok(),
+        _ => referred(case),
     }
 }
 
@@ -83,14 +114,15 @@ fn measured(who: Who, case: &Case, tray: &mut [u8]) -> bool {
 struct Timed<'a> {
     who: Who,
     case: &'a Case,
-    tray: Vec<u8>,
+    trays: Trays,
     calls: u32,
     least: f64,
 }
 
 impl<'a> Timed<'a> {
     fn new(who: Who, case: &'a Case) -> Self {
-        let mut timed = Timed { who, case, tray: tray(who, case), calls: 1, least: f64::INFINITY };
+        let trays = Trays::new(who, case);
+        let mut timed = Timed { who, case, trays, calls: 1, least: f64::INFINITY };
         while timed.batch() < Duration::from_millis(1) {
             timed.calls *= 2;
         }
@@ -100,7 +132,9 @@ impl<'a> Timed<'a> {
     fn batch(&mut self) -> Duration {
         let start = Instant::now();
         for _ in 0..self.calls {
-            black_box(measured(self.who, black_box(self.case), &mut self.tray));
+            self.trays.restore(self.case);
+            let Trays { result, run } = &mut self.trays;
+            black_box(measured(self.who, black_box(self.case), result, run));
         }
         start.elapsed()
     }
@@ -123,7 +157,7 @@ const ROUNDS: usize = 12;
 const STATE: &str = "\
 Sheets are those of the call before. The library and the plain version write into
 the tray of the call before, Delta, Pi and Sigma in turn into three; the reference
-makes a tray of its own at each call.
+makes a tray of its own at each call. The run of a change is copied to its tray before.
 The least time of a call over 12 rounds of 40 ms, in batches of at least 1 ms:
 ";
 
@@ -142,7 +176,7 @@ fn line(case: &Case) {
     for _ in 0..ROUNDS {
         versions.iter_mut().flatten().for_each(Timed::round);
     }
-    let bytes: usize = case.sheets.iter().map(Vec::len).sum();
+    let bytes: usize = (0..case.sheets.len()).map(|number| case.sheet(number).len()).sum();
     print!("{:28} {bytes:>8}", case.name);
     for version in versions {
         match version {
@@ -167,10 +201,10 @@ struct Page(u8);
 /// goes by the length of its environment, and how the C library copies arrays by
 /// where they stand: so the instructions are the same in every environment.
 #[inline(never)]
-fn counted(who: Who, case: &Case, tray: &mut [u8]) {
+fn counted(who: Who, case: &Case, trays: &mut Trays) {
     let page = Page(0);
     black_box(&page.0);
-    black_box(measured(who, case, tray));
+    black_box(measured(who, case, &mut trays.result, &mut trays.run));
 }
 
 /// One call by name, the first on its sheets, with a tray that nothing has
@@ -180,8 +214,8 @@ fn once(name: &str, who: &str) -> Result<(), String> {
     let mut versions = ALL.into_iter().filter(|&(_, version)| answers(version, case.call));
     let version = versions.find(|(name, _)| *name == who);
     let (_, who) = version.ok_or_else(|| format!("{name} is not answered by {who}"))?;
-    let mut tray = tray(who, &case);
-    counted(who, &case, &mut tray);
+    let mut trays = Trays::new(who, &case);
+    counted(who, &case, &mut trays);
     Ok(())
 }
 

@@ -1,5 +1,5 @@
 //! The proved library, called through its wrapper, against the reference: the
-//! answer, the whole tray, and every lent byte afterwards.
+//! answer, the whole tray, of a change both, and every lent byte afterwards.
 
 #![forbid(unsafe_code)]
 #![warn(missing_docs)]
@@ -14,9 +14,10 @@ use std::fmt;
 use std::time::Duration;
 use vectors::answer::{reference_outcome, Outcome, FILLING};
 use vectors::call::{Call, Case};
+use vectors::changes::Streams;
 use vectors::random::Random;
 use vectors::report::Report;
-use vectors::stream::{fixed_and_refused, Chance};
+use vectors::stream::{fixed_and_refused, fixed_and_refused_changes, Chance};
 
 /// So many bytes on each side of a tray are not lent and must stay.
 const MARGIN: usize = 32;
@@ -61,8 +62,14 @@ impl fmt::Display for Difference {
         for (place, sheet) in self.case.sheets.iter().enumerate() {
             writeln!(out, "sheet {}: {}", place + 1, hex(sheet))?;
         }
+        for number in &self.case.numbers {
+            writeln!(out, "number: {number}")?;
+        }
         writeln!(out, "tray: {} bytes", self.case.tray)?;
-        let told = |outcome: &Outcome| format!("{:?}, tray {}", outcome.answer, hex(&outcome.tray));
+        let told = |Outcome { answer, tray, run }: &Outcome| {
+            let run = run.as_ref().map_or(String::new(), |run| format!(", run {}", hex(run)));
+            format!("{answer:?}, tray {}{run}", hex(tray))
+        };
         writeln!(out, "expected: {}", told(&self.expected))?;
         match &self.found {
             Ok(outcome) => writeln!(out, "found: {}", told(outcome)),
@@ -84,12 +91,33 @@ pub fn count_and_seed(words: &[String]) -> Option<(usize, u64)> {
     }
 }
 
-/// Every kind of case: the fixed ones, those made for a refusal each, then by
-/// chance; `count` in all, or as many as are fixed where that is more.
+/// Every kind of case but changes of a run: the fixed ones, those made for a refusal
+/// each, then by chance; `count` in all, or as many as are fixed where that is more.
 pub fn cases(seed: u64, count: usize) -> impl Iterator<Item = Case> {
     let first = fixed_and_refused(&mut Random::seeded(seed));
     let more = count.saturating_sub(first.len());
     first.into_iter().chain(Chance::seeded(seed).take(more))
+}
+
+/// The same of changes of a run: those by chance come in streams, each change lent both
+/// trays as the reference leaves them after those before it.  So the library is lent what
+/// it left itself, where it does not differ.
+pub fn changes(seed: u64, count: usize) -> impl Iterator<Item = Case> {
+    let first = fixed_and_refused_changes(&mut Random::seeded(seed));
+    let more = count.saturating_sub(first.len());
+    first.into_iter().chain(Streams::seeded(seed).take(more))
+}
+
+/// What the reference answers to a case, where the library answers the same.
+pub fn agreed(
+    case: &Case,
+    expected: Outcome,
+    found: Result<Outcome, Fault>,
+) -> Result<Outcome, Box<Difference>> {
+    if found.as_ref() == Ok(&expected) {
+        return Ok(expected);
+    }
+    Err(Box::new(Difference { case: case.clone(), expected, found }))
 }
 
 /// Tries the cases, each within [`LIMIT`]; how they ended, or the first that
@@ -103,10 +131,7 @@ pub fn compare(
             let expected = reference_outcome(&case);
             begin(case.clone());
             let found = library_outcome(&case);
-            if found.as_ref() != Ok(&expected) {
-                return Err(Box::new(Difference { case, expected, found }));
-            }
-            report.add(case.call, &expected);
+            report.add(case.call, &agreed(&case, expected, found)?);
         }
         Ok(report)
     });
@@ -118,26 +143,79 @@ pub fn compare(
     })
 }
 
-/// What the library answers, or what it changed besides the tray.
-pub fn library_outcome(case: &Case) -> Result<Outcome, Fault> {
-    let sheets = case.sheets.clone();
-    let mut around = vec![FILLING; MARGIN + case.tray + MARGIN];
-    let tray = &mut around[MARGIN..MARGIN + case.tray];
-    let answer = call(case.call, &sheets, tray);
-    let tray = tray.to_vec();
-    if sheets != case.sheets {
-        return Err(Fault::Changed("a sheet"));
+/// A tray with bytes on each side of it that are not lent and must stay.
+struct Margined {
+    bytes: Vec<u8>,
+}
+
+impl Margined {
+    fn new(tray: &[u8]) -> Self {
+        let margin = [FILLING; MARGIN];
+        Margined { bytes: [&margin, tray, &margin].concat() }
     }
-    let beside = around[..MARGIN].iter().chain(&around[MARGIN + case.tray..]);
-    if beside.into_iter().any(|&byte| byte != FILLING) {
-        return Err(Fault::Changed("a byte beside the tray"));
+
+    fn tray(&mut self) -> &mut [u8] {
+        let end = self.bytes.len() - MARGIN;
+        &mut self.bytes[MARGIN..end]
+    }
+
+    /// The tray, unless a byte beside it changed.
+    fn taken(mut self) -> Result<Vec<u8>, Fault> {
+        let tray = self.tray().to_vec();
+        if self.bytes != Self::new(&tray).bytes {
+            return Err(Fault::Changed("a byte beside a tray"));
+        }
+        Ok(tray)
+    }
+}
+
+/// What the library answers, or what it changed besides the trays.
+pub fn library_outcome(case: &Case) -> Result<Outcome, Fault> {
+    let lent = case.clone();
+    let mut tray = Margined::new(&case.tray_before());
+    let mut run = case.run_before().map(|run| Margined::new(&run));
+    let answer = make(&lent, run.as_mut().map_or(&mut [], Margined::tray), tray.tray());
+    if lent != *case {
+        return Err(Fault::Changed("a sheet"));
     }
     let told =
         |refusal: Refusal| reference::Refusal { number: refusal.number, place: refusal.place };
-    Ok(Outcome { answer: answer.map_err(told), tray })
+    let run = run.map(Margined::taken).transpose()?;
+    Ok(Outcome { answer: answer.map_err(told), tray: tray.taken()?, run })
 }
 
-/// The call through the wrapper.
+/// The call of a case through the wrapper, in these trays; that of the run is there for
+/// changes alone.
+pub fn make(case: &Case, run: &mut [u8], tray: &mut [u8]) -> Result<usize, Refusal> {
+    if case.call.is_change() {
+        change(&case.sheets, &case.numbers, run, tray)
+    } else {
+        call(case.call, &case.sheets, tray)
+    }
+}
+
+/// The change of a run through the wrapper, where it stands in its tray; the run among the
+/// sheets is not lent.
+fn change(
+    sheets: &[Vec<u8>],
+    numbers: &[u64],
+    run: &mut [u8],
+    tray: &mut [u8],
+) -> Result<usize, Refusal> {
+    let number = |number: u64| usize::try_from(number).expect("64 bits");
+    let changed = match (sheets, numbers) {
+        ([s, t, f, _, row], &[length, table]) => {
+            add_row(s, t, f, run, number(length), number(table), row, tray)
+        }
+        ([s, t, f, _], &[length, table, row]) => {
+            withdraw_row(s, t, f, run, number(length), number(table), number(row), tray)
+        }
+        _ => unreachable!("a change, lent its sheets and numbers"),
+    };
+    changed.map(|changed| 65_536 * changed.run + changed.pushed)
+}
+
+/// The call that changes no run, through the wrapper.
 pub fn call(call: Call, sheets: &[Vec<u8>], tray: &mut [u8]) -> Result<usize, Refusal> {
     match (call, sheets) {
         (Call::CheckSchema, [s]) => check_schema(s).map(|()| 0),

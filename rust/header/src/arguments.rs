@@ -6,6 +6,9 @@ use vectors::call::Call;
 /// The place of the tray; sheets have theirs from 1 on.
 pub const TRAY: usize = 0;
 
+/// The place of the run, which a change is lent in a tray.
+pub const RUN: usize = 4;
+
 /// What a parameter is lent.  A parameter of another sort is a variant here, a
 /// field of `struct trial` in `program.c`, and a line in `model`.
 #[derive(Debug, Clone, Copy, PartialEq, Eq, PartialOrd, Ord)]
@@ -14,6 +17,8 @@ pub enum Argument {
     Bytes(usize),
     /// The length of the sheet at a place, or of the tray.
     Length(usize),
+    /// A number, by its place among those that are lent, from 0.
+    Number(usize),
 }
 
 /// The names of a call's sheets, by place.  The length of a sheet has the sheet's
@@ -31,8 +36,13 @@ fn sheets(call: Call) -> &'static [&'static str] {
             &["s", "t", "f", "run", "book", "list"]
         }
         Call::Query => &["s1", "s2", "s3", "s4", "f", "g", "h", "run"],
+        Call::AddRow => &["s", "t", "f", "run", "row"],
+        Call::WithdrawRow => &["s", "t", "f", "run"],
     }
 }
+
+/// The names of a change's numbers.
+const NUMBERS: [&str; 3] = ["run_length", "table", "row"];
 
 /// The name of an export.
 pub fn export(call: Call) -> String {
@@ -40,36 +50,38 @@ pub fn export(call: Call) -> String {
 }
 
 impl Argument {
-    /// What an export is lent, in its order: each sheet and its length, by place;
-    /// then the tray and its length.
+    /// What an export is lent, in its order: each sheet and its length, by place, of a
+    /// change its numbers after the run; then the tray and its length.
     pub fn all(call: Call) -> Vec<Argument> {
         let tray = call.has_tray().then_some(TRAY);
         let places = (1..=sheets(call).len()).chain(tray);
-        places.flat_map(|place| [Argument::Bytes(place), Argument::Length(place)]).collect()
+        let mut all: Vec<Argument> =
+            places.flat_map(|place| [Argument::Bytes(place), Argument::Length(place)]).collect();
+        let numbers = (0..call.numbers()).map(Argument::Number);
+        let behind_run = if call.is_change() { 2 * RUN } else { 0 };
+        all.splice(behind_run..behind_run, numbers);
+        all
     }
 
     /// The name of its parameter.
     pub fn name(self, call: Call) -> String {
-        let of = |place: usize| if place == TRAY { "tray" } else { sheets(call)[place - 1] };
+        let tray = if call.is_change() { "pushed" } else { "tray" };
+        let of = |place: usize| if place == TRAY { tray } else { sheets(call)[place - 1] };
         match self {
             Argument::Bytes(place) => of(place).to_string(),
             Argument::Length(place) => format!("{}_len", of(place)),
+            Argument::Number(number) => NUMBERS[number].to_string(),
         }
     }
 
     /// The C type of its parameter.
-    pub fn kind(self) -> &'static str {
+    pub fn kind(self, call: Call) -> &'static str {
         match self {
             Argument::Bytes(TRAY) => "uint8_t *",
+            Argument::Bytes(RUN) if call.is_change() => "uint8_t *",
             Argument::Bytes(_) => "const uint8_t *",
             Argument::Length(_) => "size_t",
-        }
-    }
-
-    /// The place of its sheet, or of the tray.
-    pub fn place(self) -> usize {
-        match self {
-            Argument::Bytes(place) | Argument::Length(place) => place,
+            Argument::Number(_) => "uint64_t",
         }
     }
 
@@ -78,6 +90,7 @@ impl Argument {
         match self {
             Argument::Bytes(place) => format!("bytes(trial, {place})"),
             Argument::Length(place) => format!("trial->lent[{place}].length"),
+            Argument::Number(number) => format!("trial->numbers[{number}]"),
         }
     }
 }
@@ -89,13 +102,14 @@ pub fn of_prototype(call: Call, prototype: &Function) -> Result<Vec<Argument>, S
     let function = &prototype.name.text;
     let expected = Argument::all(call);
     let kinds = prototype.parameters.iter().map(|parameter| parameter.kind.as_str());
-    if prototype.gives != "uint64_t" || !kinds.eq(expected.iter().map(|argument| argument.kind())) {
+    let of_export = expected.iter().map(|argument| argument.kind(call));
+    if prototype.gives != "uint64_t" || !kinds.eq(of_export) {
         return Err(format!("{function} has other types than the export"));
     }
     let mut rest = expected;
     let mut lent = |Parameter { kind, name }: &Parameter| {
         let named =
-            |argument: &Argument| argument.name(call) == name.text && argument.kind() == kind;
+            |argument: &Argument| argument.name(call) == name.text && argument.kind(call) == kind;
         let found = rest.iter().position(named);
         let found = found.ok_or(format!("{function} has a parameter {kind} {}", name.text))?;
         Ok(rest.swap_remove(found))

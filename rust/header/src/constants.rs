@@ -1,4 +1,4 @@
-//! The header's constants: for refusals, by document 01's words; for sizes; and for
+//! The header's constants: for refusals, by the papers' words; for sizes; and for
 //! stacks, by the wrapper's names.
 
 use reference::refusal;
@@ -8,11 +8,11 @@ macro_rules! numbers {
     ($($name:ident)*) => { [$((stringify!($name), refusal::$name)),*] };
 }
 
-/// Document 01's words "cut" to "no match" as they stand in names of constants,
+/// The papers' words "cut" to "still held" as they stand in names of constants,
 /// each with its number.
-pub const REFUSALS: [(&str, u8); 17] = numbers! {
+pub const REFUSALS: [(&str, u8); 19] = numbers! {
     CUT TAIL COUNT STRAY RING CROWD MISFIT BROKEN_RULE DANGLING OFF_SCALE BENT_ROW UNEVEN UNPAIRED
-    WIDE OVERFULL SMALL_TRAY NO_MATCH
+    WIDE OVERFULL SMALL_TRAY NO_MATCH ABSENT STILL_HELD
 };
 
 /// The header's constant for a refusal.
@@ -39,9 +39,9 @@ macro_rules! stacks {
 }
 
 /// The bytes of stack that the calls need, which are tried where the wrapper is.
-pub const STACKS: [(&str, usize); 10] = stacks! {
+pub const STACKS: [(&str, usize); 11] = stacks! {
     STACK_CHECK_SCHEMA STACK_CHECK_MAPPING STACK_CHECK_INSTANCE STACK_FIRST_PATH STACK_PATH_CHAIN
-    STACK_DELTA STACK_SIGMA STACK_PI STACK_QUERY STACK_MATCHINGS
+    STACK_DELTA STACK_SIGMA STACK_PI STACK_QUERY STACK_MATCHINGS STACK_CHANGES
 };
 
 /// The constants that are compared with the wrapper's numbers, since no call tells

@@ -1,6 +1,6 @@
 //! What the C program finds, with the reference in the library's place.
 
-use crate::arguments::{export, of_prototype, Argument, TRAY};
+use crate::arguments::{export, of_prototype, Argument, RUN, TRAY};
 use crate::constants::{compared, constant};
 use crate::read::Header;
 use crate::trials::Trial;
@@ -41,17 +41,22 @@ pub fn first_failure(header: &Header, trials: &[Trial]) -> Result<Option<Failure
     Ok(None)
 }
 
-/// Whether the answer and the tray are as expected when the call is made as the
+/// Whether the answer and the trays are as expected when the call is made as the
 /// header declares it.
 fn passes(header: &Header, trial: &Trial) -> Result<bool, String> {
-    let name = export(trial.case.call);
+    let call = trial.case.call;
+    let name = export(call);
     let prototype = header.prototype(&name).ok_or(format!("the header lacks {name}"))?;
-    let arguments = of_prototype(trial.case.call, prototype)?;
+    let arguments = of_prototype(call, prototype)?;
     let lent = lent(header, trial, &arguments)?;
     let same = lent == trial.case;
     let outcome = if same { trial.outcome.clone() } else { reference_outcome(&lent) };
-    let expected = expected(header, &trial.outcome)?;
-    Ok(outcome.number() == expected && same_room(&outcome.tray, &trial.outcome.tray))
+    if outcome.number() != expected(header, &trial.outcome)? {
+        return Ok(false);
+    }
+    let found = rooms_after(header, trial, &arguments, &outcome)?;
+    let expected = rooms_after(header, trial, &Argument::all(call), &trial.outcome)?;
+    Ok(same_room(&found[0], &expected[0]) && same_room(&found[1], &expected[1]))
 }
 
 /// Whether another call, which takes as many sheets and a tray or none, gives the
@@ -64,22 +69,60 @@ pub fn answers_alike(trials: &[Trial], call: Call, other: Call) -> bool {
 
 /// What the export is lent where the header has its arguments in this order.
 fn lent(header: &Header, trial: &Trial, arguments: &[Argument]) -> Result<Case, String> {
-    let expected = Argument::all(trial.case.call);
-    let length = |place: usize| length(header, trial, place);
+    use Argument::{Bytes, Length, Number};
     let mut case = trial.case.clone();
-    for (&taken, lent) in expected.iter().zip(arguments) {
-        match (taken, lent.place()) {
-            (Argument::Bytes(TRAY), _) => {}
-            (Argument::Bytes(place), of) => {
-                let mut room = trial.sheet(of).to_vec();
-                room.resize(room.len().max(length(of)?), 0);
-                case.sheets[place - 1] = room;
+    for (taken, lent) in Argument::all(trial.case.call).into_iter().zip(arguments) {
+        match (taken, *lent) {
+            (Bytes(TRAY), Bytes(of)) => case.standing = room(header, trial, of)?,
+            (Bytes(place), Bytes(of)) => case.sheets[place - 1] = room(header, trial, of)?,
+            (Length(TRAY), Length(by)) => {
+                case.tray = length(header, trial, by)?;
+                case.standing.truncate(case.tray);
             }
-            (Argument::Length(TRAY), by) => case.tray = length(by)?,
-            (Argument::Length(place), by) => case.sheets[place - 1].resize(length(by)?, FILLING),
+            (Length(place), Length(by)) => {
+                case.sheets[place - 1].resize(length(header, trial, by)?, FILLING);
+            }
+            (Number(number), Number(by)) => case.numbers[number] = trial.case.numbers[by],
+            _ => return Err(format!("{taken:?} is lent as {lent:?}")),
         }
     }
     Ok(case)
+}
+
+/// The bytes of the room at a place before the call, up to those that are filling: the
+/// tray's has no others.
+fn room(header: &Header, trial: &Trial, place: usize) -> Result<Vec<u8>, String> {
+    let mut room = trial.sheet(place).to_vec();
+    if place != TRAY {
+        room.resize(room.len().max(length(header, trial, place)?), 0);
+    }
+    Ok(room)
+}
+
+/// The rooms of the tray and of the run after a call that was lent these arguments.  Only a
+/// change has the run's for a tray.
+fn rooms_after(
+    header: &Header,
+    trial: &Trial,
+    arguments: &[Argument],
+    outcome: &Outcome,
+) -> Result<[Vec<u8>; 2], String> {
+    let call = trial.case.call;
+    let mut rooms = [room(header, trial, TRAY)?, vec![]];
+    if call.is_change() {
+        rooms[1] = room(header, trial, RUN)?;
+    }
+    for (taken, lent) in Argument::all(call).into_iter().zip(arguments) {
+        let written = match taken {
+            Argument::Bytes(TRAY) => &outcome.tray,
+            Argument::Bytes(RUN) if call.is_change() => outcome.run.as_ref().expect("a change"),
+            _ => continue,
+        };
+        let room = &mut rooms[usize::from(*lent == Argument::Bytes(RUN))];
+        room.resize(room.len().max(written.len()), FILLING);
+        room[..written.len()].copy_from_slice(written);
+    }
+    Ok(rooms)
 }
 
 /// The length of the sheet at a place, or of the tray, as the program has it.

@@ -5,7 +5,7 @@
 #include <stdio.h>
 #include <string.h>
 
-enum { TRAY = 0, PLACES = 16, ROOM = 65600, BESIDE = 32, FILLING = 165 };
+enum { TRAY = 0, RUN = 4, PLACES = 16, ROOM = 65600, BESIDE = 32, FILLING = 165 };
 
 /* The bytes that are written, then 0 up to the length. */
 struct lent {
@@ -14,14 +14,20 @@ struct lent {
     size_t length;
 };
 
-/* A call, what it is lent, and what is expected of it. Place 0 is the tray's, the others are the sheets'. */
+/* A call, what it is lent, and what is expected of it. Place 0 is the tray's, the others are the sheets'. A change of a run is lent numbers too, and
+ * has the run's place for a tray: the whole of it afterwards is told. */
 struct trial {
     const char *call;
     const char *name;
     uint64_t (*make)(const struct trial *);
     struct lent lent[PLACES];
+    int changes;
+    uint64_t numbers[3];
+    struct lent run_after;
     int accepted;
     uint64_t result;
+    size_t run_length;
+    size_t pushed_length;
     const char *word;
     unsigned number;
     unsigned place;
@@ -29,6 +35,7 @@ struct trial {
 };
 
 #define ACCEPTED(as) .accepted = 1, .result = as
+#define CHANGED(run, pushed) .accepted = 1, .result = 65536 * (uint64_t)run + pushed, .run_length = run, .pushed_length = pushed
 #define REFUSED(constant, at) .word = #constant, .number = constant, .place = at
 
 /* Each sheet and the tray stand in a room of their own, longer than any of them. */
@@ -85,6 +92,9 @@ static void fill(uint8_t *room, size_t size, const struct lent *lent) {
 
 static int answer_is_expected(const struct trial *trial, uint64_t answer) {
     uint64_t refused = ((uint64_t)1 << 32) + 256 * (uint64_t)trial->number + trial->place;
+    if (trial->accepted && trial->changes)
+        return migration_accepted(answer) && answer == trial->result && migration_run_length(answer) == trial->run_length &&
+               migration_pushed_length(answer) == trial->pushed_length;
     if (trial->accepted)
         return migration_accepted(answer) && answer == trial->result;
     return !migration_accepted(answer) && answer == refused && migration_number(answer) == trial->number &&
@@ -108,11 +118,18 @@ static void tell_answer(const struct trial *trial, uint64_t answer) {
                (unsigned long long)answer);
 }
 
-/* Whether no sheet has changed, and in the tray the result alone. */
+/* What stands at a place after the call. */
+static const struct lent *left(const struct trial *trial, int place) {
+    if (place == TRAY)
+        return &trial->after;
+    return place == RUN && trial->changes ? &trial->run_after : &trial->lent[place];
+}
+
+/* Whether no sheet has changed, and in the tray, of a change in both trays, the result alone. */
 static int rooms_are_expected(const struct trial *trial, size_t size) {
     static uint8_t expected[ROOM];
     for (int place = 0; place < PLACES; place++) {
-        fill(expected, size, place == TRAY ? &trial->after : &trial->lent[place]);
+        fill(expected, size, left(trial, place));
         for (size_t k = 0; k < size; k++) {
             if (rooms[place][k] != expected[k]) {
                 tell(trial);
@@ -142,6 +159,23 @@ static int passes(const struct trial *trial) {
     return rooms_are_expected(trial, size);
 }
 
+/* Whether both lengths of a change are taken apart: each length that there can be, beside the least and the largest of the other. */
+static int lengths_are_taken_apart(void) {
+    for (size_t one = 0; one <= MIGRATION_INSTANCE_BYTES; one++) {
+        for (int turn = 0; turn < 4; turn++) {
+            size_t other = turn / 2 ? MIGRATION_INSTANCE_BYTES : 0;
+            size_t run = turn % 2 ? one : other, pushed = turn % 2 ? other : one;
+            uint64_t answer = 65536 * (uint64_t)run + pushed;
+            if (!migration_accepted(answer) || migration_run_length(answer) != run || migration_pushed_length(answer) != pushed) {
+                printf("expected a run of %lu bytes and a pushed sheet of %lu; found %lu and %lu\n", (unsigned long)run, (unsigned long)pushed,
+                       (unsigned long)migration_run_length(answer), (unsigned long)migration_pushed_length(answer));
+                return 0;
+            }
+        }
+    }
+    return 1;
+}
+
 /* Whether every answer that there can be is taken apart. */
 static int answers_are_taken_apart(void) {
     const uint64_t refused = (uint64_t)1 << 32;
@@ -164,7 +198,7 @@ static int answers_are_taken_apart(void) {
 
 int main(void) {
     const size_t count = sizeof trials / sizeof trials[0];
-    if (!answers_are_taken_apart() || !numbers_are_expected())
+    if (!answers_are_taken_apart() || !lengths_are_taken_apart() || !numbers_are_expected())
         return 1;
     for (null_where_empty = 0; null_where_empty < 2; null_where_empty++)
         for (size_t k = 0; k < count; k++)

@@ -1,10 +1,11 @@
 //! The C program that tries a header.
 
-use crate::arguments::{export, of_prototype, Argument};
+use crate::arguments::{export, of_prototype, Argument, RUN};
 use crate::constants::{compared, constant};
 use crate::read::{Header, Word};
 use crate::trials::Trial;
 use std::collections::BTreeSet;
+use vectors::answer::Outcome;
 use vectors::call::Call;
 
 /// What is the same for every header.
@@ -78,32 +79,51 @@ fn trial_text(trial: &Trial) -> Result<String, String> {
     let places = 0..=trial.case.sheets.len();
     let lent: Vec<String> = places.map(|place| lent_text(trial, place)).collect();
     let lent = lent.join(", ");
-    let expected = match trial.outcome.answer {
-        Ok(number) => format!("ACCEPTED({number})"),
-        Err(refusal) => {
-            let constant = constant(refusal.number).ok_or("a number without a constant")?;
-            format!("REFUSED({constant}, {})", refusal.place)
-        }
-    };
-    let after = match trial.outcome.answer {
-        Ok(length) if call.has_tray() => &trial.outcome.tray[..length],
+    let expected = expected_text(&trial.outcome)?;
+    let after = match (trial.outcome.lengths(), trial.outcome.answer) {
+        (Some((_, pushed)), _) => &trial.outcome.tray[..pushed],
+        (None, Ok(length)) if call.has_tray() => &trial.outcome.tray[..length],
         _ => &[],
     };
     let after = bytes_text(after, &after.len().to_string());
-    let (export, make) = (export(call), call.name());
+    let (export, make, change) = (export(call), call.name(), change_text(trial));
     Ok(format!(
         "    {{.call = \"{export}\", .name = {name:?}, .make = make_{make}, .lent = {{{lent}}}, \
-         {expected}, .after = {after}}},\n"
+         {change}{expected}, .after = {after}}},\n"
     ))
+}
+
+/// What is expected of an answer.
+fn expected_text(outcome: &Outcome) -> Result<String, String> {
+    Ok(match (outcome.lengths(), outcome.answer) {
+        (Some((run, pushed)), _) => format!("CHANGED({run}, {pushed})"),
+        (None, Ok(number)) => format!("ACCEPTED({number})"),
+        (None, Err(refusal)) => {
+            let constant = constant(refusal.number).ok_or("a number without a constant")?;
+            format!("REFUSED({constant}, {})", refusal.place)
+        }
+    })
+}
+
+/// Of a change the numbers that it is lent, and the run's whole tray afterwards.
+fn change_text(trial: &Trial) -> String {
+    let Some(run) = &trial.outcome.run else { return String::new() };
+    let numbers: Vec<String> = trial.case.numbers.iter().map(|n| format!("{n}u")).collect();
+    let after = bytes_text(run, &length_text(trial, RUN));
+    format!(".changes = 1, .numbers = {{{}}}, .run_after = {after}, ", numbers.join(", "))
 }
 
 /// What a trial lends at a place.
 fn lent_text(trial: &Trial, place: usize) -> String {
-    let length = match trial.size(place) {
+    bytes_text(trial.sheet(place), &length_text(trial, place))
+}
+
+/// The length of what a trial lends at a place.
+fn length_text(trial: &Trial, place: usize) -> String {
+    match trial.size(place) {
         Some(size) => format!("{} {:+}", size.constant, size.more),
         None => trial.length(place).to_string(),
-    };
-    bytes_text(trial.sheet(place), &length)
+    }
 }
 
 /// Bytes up to the last that is not 0, how many these are, and the length.

@@ -1,16 +1,18 @@
 //! Trials of the header's four sizes: sheets of just so many bytes, and trays.
 
-use crate::arguments::TRAY;
+use crate::arguments::{RUN, TRAY};
 use crate::constants::{CHAIN_BYTES, INSTANCE_BYTES, MATCHING_BYTES, PATH_BYTES};
 use crate::trials::Trial;
-use reference::plain::{Attribute, Instance, Schema};
+use reference::plain::{Attribute, Instance, Row, Schema};
 use vectors::build::{graph, identity, instance, list, mapping, path};
 use vectors::call::{Call, Case};
 use vectors::chains::longer_way;
+use vectors::trays::{Change, Trays};
 
 /// Trials of the four sizes.
 pub fn longest() -> Vec<Trial> {
-    [longest_instances(), longest_queries(), longest_lists(), longest_paths(), chains()].concat()
+    let instances = [longest_instances(), longest_queries(), longest_changes()].concat();
+    [instances, longest_lists(), longest_paths(), chains()].concat()
 }
 
 /// The schema whose instances are the longest: 16 nodes, 32 edges and 16
@@ -78,6 +80,33 @@ fn longest_queries() -> Vec<Trial> {
     trials.push(whole.sized(TRAY, INSTANCE_BYTES, 0));
     trials.push(dug("the longest result of a query, a tray of a byte less", needed - 1));
     trials
+}
+
+/// The same of changes along the identity of such a schema: a row is added, so that both
+/// results are as long as there can be, and one is withdrawn.
+fn longest_changes() -> Vec<Trial> {
+    let (schema, same) = (widest().to_sheet(), identity(&widest()).to_sheet());
+    let trays = |run: &Instance, trays: [usize; 2]| {
+        let sheets = [schema.clone(), schema.clone(), same.clone(), run.to_sheet()];
+        let behind = vec![0; trays[0] - sheets[3].len()];
+        Trays::of_sheets(sheets, &behind, trays[1])
+    };
+    let (most, needed) = (rows(512, 0).to_sheet().len(), rows(511, 1).to_sheet().len());
+    let row = Row { links: vec![0; 32], values: vec![0; 16] };
+    let add = |name: &str, sizes: [usize; 2]| {
+        Trial::new(trays(&rows(510, 1), sizes).case(name, Change::add(0, &row)))
+    };
+    let withdrawn = trays(&rows(511, 1), [most; 2]).case("a row less", Change::withdraw(0, 0));
+    let dangling = trays(&rows(512, 0), [most; 2])
+        .case("the longest instance sheet, to be changed", Change::withdraw(0, 0));
+    let sized = |trial: Trial| trial.sized(RUN, INSTANCE_BYTES, 0).sized(TRAY, INSTANCE_BYTES, 0);
+    vec![
+        sized(add("the longest results of a change", [most; 2])),
+        add("the longest results of a change, a run tray of a byte less", [needed - 1, needed]),
+        add("the longest results of a change, a pushed tray of a byte less", [needed, needed - 1]),
+        sized(Trial::new(withdrawn)),
+        sized(Trial::new(dangling)),
+    ]
 }
 
 /// A list of 512 rows for each call that takes one, and trays for its turning.

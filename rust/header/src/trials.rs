@@ -4,8 +4,10 @@ use crate::arguments::TRAY;
 use crate::sizes::longest;
 use std::collections::BTreeSet;
 use std::sync::OnceLock;
-use vectors::answer::{reference_outcome, result_length, Outcome};
+use vectors::answer::{changed_lengths, reference_outcome, result_length, Outcome};
 use vectors::call::Case;
+use vectors::change_limits::change_limits;
+use vectors::change_refusals;
 use vectors::limits::limits;
 use vectors::papers::papers;
 use vectors::random::Random;
@@ -74,18 +76,26 @@ impl Trial {
 /// All trials.
 pub fn trials() -> &'static [Trial] {
     static TRIALS: OnceLock<Vec<Trial>> = OnceLock::new();
-    TRIALS.get_or_init(|| [for_each_end(), longest()].concat())
+    TRIALS.get_or_init(|| [for_each_end(), longest(), far_numbers()].concat())
+}
+
+/// Changes with a number that is another when its upper 32 bits are cut off.
+fn far_numbers() -> Vec<Trial> {
+    let far = |case: &Case| case.numbers.iter().any(|number| (1 << 32..1 << 33).contains(number));
+    change_limits().into_iter().filter(far).map(Trial::new).collect()
 }
 
 /// The most bytes of a record that is taken for an end.
 const MOST_RECORD: usize = 1000;
 
-/// For each call, each end that it can have and each way in which the tray's
-/// length differs from the result's, the first case of the crate `vectors`.
+/// For each call, each end that it can have and each way in which the trays'
+/// lengths differ from the results', the first case of the crate `vectors`.
 fn for_each_end() -> Vec<Trial> {
-    let refused = for_each_refusal(&mut Random::seeded(1));
-    let refused = refused.into_iter().map(|expected| expected.case);
-    let cases = papers().into_iter().chain(limits()).chain(refused);
+    let refused = for_each_refusal(&mut Random::seeded(1)).into_iter();
+    let refused = refused.chain(change_refusals::for_each_refusal(&mut Random::seeded(1)));
+    let refused = refused.map(|expected| expected.case);
+    let fixed = papers().into_iter().chain(limits()).chain(change_limits());
+    let cases = fixed.chain(refused);
     let short = cases.filter(|case| record(case).len() <= MOST_RECORD);
     let mut met = BTreeSet::new();
     let is_new = |trial: &Trial| {
@@ -95,9 +105,14 @@ fn for_each_end() -> Vec<Trial> {
     short.map(Trial::new).filter(is_new).collect()
 }
 
-/// How many bytes the tray has more than the result needs, two of them standing
-/// for any number.
-fn spare(case: &Case) -> Option<i64> {
+/// How many bytes the tray has more than the result needs, and of a change the run's tray
+/// too, two of them standing for any number.
+fn spare(case: &Case) -> [Option<i64>; 2] {
+    let more = |tray: usize, needed: usize| (tray as i64 - needed as i64).clamp(-2, 2);
+    if case.call.is_change() {
+        let Some((run, pushed)) = changed_lengths(case) else { return [None; 2] };
+        return [Some(more(case.tray, pushed)), Some(more(case.sheets[3].len(), run))];
+    }
     let needed = if case.call.has_tray() { result_length(case) } else { None };
-    needed.map(|needed| (case.tray as i64 - needed as i64).clamp(-2, 2))
+    [needed.map(|needed| more(case.tray, needed)), None]
 }

@@ -66,6 +66,12 @@ fn the_sizes_are_those_of_the_papers() {
     assert_eq!(result("the longest result, a tray of a byte less"), (51_119, None));
     assert_eq!(result("the longest result of a query"), (51_220, Some(51_120)));
     assert_eq!(result("the longest result of a query, a tray of a byte less"), (51_119, None));
+    let both = 65_536 * 51_120 + 51_120;
+    assert_eq!(result("the longest results of a change"), (51_220, Some(both)));
+    let short = "the longest results of a change, a run tray of a byte less";
+    assert_eq!(result(short), (51_120, None));
+    let short = "the longest results of a change, a pushed tray of a byte less";
+    assert_eq!(result(short), (51_119, None));
     assert_eq!(result("the longest path, whole"), (11, Some(11)));
     assert_eq!(result("the longest path, a tray of a byte less"), (10, None));
     assert_eq!(result("the longest chain"), (320, Some(279)));
@@ -137,6 +143,7 @@ fn parameter(text: &str) -> (String, String) {
         "*const u8" => "const uint8_t *",
         "*mut u8" => "uint8_t *",
         "usize" => "size_t",
+        "u64" => "uint64_t",
         other => other,
     };
     (kind.to_string(), name.to_string())

@@ -7,7 +7,8 @@ use crate::Refusal;
 const REFUSED: u64 = 1 << 32;
 
 /// What the library's answer means.  For a call that writes a sheet the number
-/// is its byte length, for a check 0; for a chain 0 where there is none.
+/// is its byte length, for a check 0; for a chain 0 where there is none; for a
+/// change of a run 65,536 times the run's length plus the pushed sheet's.
 pub(crate) fn read(answer: u64) -> Result<usize, Refusal> {
     match answer.checked_sub(REFUSED) {
         None => Ok(answer as usize),
@@ -28,7 +29,7 @@ mod tests {
 
     #[test]
     fn every_refusal_is_read_back() {
-        for number in 1..=17 {
+        for number in 1..=19 {
             for place in 0..=8 {
                 let answer = REFUSED + 256 * u64::from(number) + u64::from(place);
                 assert_eq!(read(answer), Err(Refusal { number, place }));

@@ -1,16 +1,17 @@
 //! The calls of the static library that is built from the proved code.
 //!
-//! Each C function takes every slice as pointer and length, the tray as a
-//! mutable pointer and length, and gives a number that
+//! Each C function takes every slice as pointer and length, a tray as a mutable
+//! pointer and length, a number as itself, and gives a number that
 //! [`crate::answer::read`] explains.
 //!
 //! # Why the calls are safe
 //!
 //! Each pointer comes from a Rust slice and goes with that slice's own length,
 //! so the library may read every byte it was lent and no other; an empty
-//! slice's pointer is not null and is lent with length 0.  The tray is lent
-//! exclusively for the time of the call, and sheets are only read.  The library
-//! keeps no pointer and has no state, so calls may run side by side.
+//! slice's pointer is not null and is lent with length 0.  A tray is lent
+//! exclusively for the time of the call, of two trays each, and sheets are only
+//! read.  The library keeps no pointer and has no state, so calls may run side by
+//! side.
 
 extern "C" {
     pub(crate) fn migration_check_schema(s: *const u8, s_len: usize) -> u64;
@@ -109,6 +110,39 @@ extern "C" {
         run_len: usize,
         tray: *mut u8,
         tray_len: usize,
+    ) -> u64;
+
+    pub(crate) fn migration_add_row(
+        s: *const u8,
+        s_len: usize,
+        t: *const u8,
+        t_len: usize,
+        f: *const u8,
+        f_len: usize,
+        run: *mut u8,
+        run_len: usize,
+        run_length: u64,
+        table: u64,
+        row: *const u8,
+        row_len: usize,
+        pushed: *mut u8,
+        pushed_len: usize,
+    ) -> u64;
+
+    pub(crate) fn migration_withdraw_row(
+        s: *const u8,
+        s_len: usize,
+        t: *const u8,
+        t_len: usize,
+        f: *const u8,
+        f_len: usize,
+        run: *mut u8,
+        run_len: usize,
+        run_length: u64,
+        table: u64,
+        row: u64,
+        pushed: *mut u8,
+        pushed_len: usize,
     ) -> u64;
 
     pub(crate) fn migration_check_pushed(

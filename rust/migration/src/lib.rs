@@ -9,6 +9,7 @@
 //! The calls that give a sheet come in two forms: one that gives the sheet as
 //! bytes of its own, and one ending in `_into` that writes into a lent tray and
 //! gives the sheet's length; the bytes of the tray beyond it keep their values.
+//! [`add_row`] and [`withdraw_row`] change a run in the tray in which it stands.
 //!
 //! Document 01's base example, pushed by Sigma:
 //!
@@ -50,6 +51,7 @@ mod matchings;
 mod migrations;
 mod query;
 mod refusal;
+mod rows;
 
 pub use chain::{path_chain, path_chain_into};
 pub use checks::{check_instance, check_mapping, check_schema};
@@ -60,10 +62,11 @@ pub use matchings::{
 pub use migrations::{delta, delta_into, pi, pi_into, sigma, sigma_into};
 pub use query::{query, query_into};
 pub use refusal::Refusal;
+pub use rows::{add_row, withdraw_row, Changed};
 
 /// The most bytes that an instance sheet has: "An instance sheet is at most
 /// 51,220 bytes."  A tray of this size holds every result of Delta, Sigma, Pi and
-/// the query.
+/// the query, and every run that is changed.
 pub const MOST_INSTANCE_BYTES: usize = 51_220;
 
 /// The most bytes that a matching sheet has: 512 rows of 9 bits.  A tray of
@@ -107,6 +110,9 @@ pub const STACK_QUERY: usize = 672 * 1024;
 
 /// The stack that each of the two checkers and the two turnings needs.
 pub const STACK_MATCHINGS: usize = 392 * 1024;
+
+/// The stack that each of [`add_row`] and [`withdraw_row`] needs.
+pub const STACK_CHANGES: usize = 416 * 1024;
 
 /// The result as bytes of its own: the call fills a tray that holds every
 /// result, which is then cut to the result's length.

@@ -3,7 +3,8 @@
 use std::fmt;
 
 /// A call's refusal: "the number and the sheet's place counted from 1 (0 for 12
-/// to 16)."
+/// to 16)."  Of a change of a run "the tests of the change itself have place 0",
+/// whatever their number.
 ///
 /// ```
 /// let refusal = migration::check_schema(&[]).unwrap_err();
@@ -17,17 +18,19 @@ use std::fmt;
 /// ```
 #[derive(Debug, Clone, Copy, PartialEq, Eq, PartialOrd, Ord, Hash)]
 pub struct Refusal {
-    /// The first number that applies in document 01's order, 1 to 17.
+    /// The first number that applies in the papers' order, 1 to 19.
     pub number: u8,
-    /// The place of the sheet among those lent, counted from 1; 0 where the
-    /// number is about no single sheet.
+    /// The place of the sheet among those lent, counted from 1; 0 where it is
+    /// about all sheets together, or about a change itself.
     pub place: u8,
 }
 
 /// Word and condition by number, as in document 01's table; 10 as request C-12 of
-/// document 02 has it.  Of the query 12 is about Sigma along H, 13 and 14 about Pi along
-/// G.
-const TABLE: [(&str, &str); 17] = [
+/// document 02 has it, 18 and 19 as C-16 has them, whose changes are added to 12, 15 and
+/// 16.  Of the query 12 is about Sigma along
+/// H, 13 and 14 about Pi along G.  Of a change of a run 12 is about its Sigma, 15 about a
+/// row that is added to 512, 16 about either tray.
+const TABLE: [(&str, &str); 19] = [
     ("cut", "the bits end before the last field does"),
     ("tail", "a filling bit is 1, or a byte follows"),
     ("count", "a count, or the sum of the row counts, beyond its limit, or no node"),
@@ -47,25 +50,28 @@ const TABLE: [(&str, &str); 17] = [
     ("dangling", "a target row at or beyond its table's count"),
     ("off scale", "a value below its kind's smallest or above its largest"),
     ("bent row", "a row where the two sides of an equation lead to different rows"),
-    ("uneven", "Sigma, a checker or transposition, and the mapping is not even"),
+    ("uneven", "Sigma, a change, a checker or transposition, and the mapping is not even"),
     ("unpaired", "Pi, and the attribute mapping is not a bijection"),
     ("wide", "Pi, and a table has more than 64 components"),
-    ("overfull", "a migrated instance has more than 512 rows"),
-    ("small tray", "the result needs more bytes than were lent"),
+    ("overfull", "a migrated instance, or a run with an added row, has more than 512 rows"),
+    ("small tray", "a result needs more bytes than were lent"),
     ("no match", "the list is not a matching"),
+    ("absent", "the named table or row does not exist"),
+    ("still held", "a row to be withdrawn that another row links to"),
 ];
 
 impl Refusal {
     fn entry(&self) -> (&'static str, &'static str) {
         let place = usize::from(self.number).checked_sub(1);
         let entry = place.and_then(|place| TABLE.get(place));
-        *entry.unwrap_or(&("unlisted", "a number that document 01 does not list"))
+        *entry.unwrap_or(&("unlisted", "a number that the papers do not list"))
     }
 
-    /// Document 01's word for the number.
+    /// The papers' word for the number.
     ///
     /// ```
     /// assert_eq!(migration::Refusal { number: 9, place: 4 }.word(), "dangling");
+    /// assert_eq!(migration::Refusal { number: 18, place: 0 }.word(), "absent");
     /// ```
     pub fn word(&self) -> &'static str {
         self.entry().0
@@ -100,17 +106,17 @@ mod tests {
 
     #[test]
     fn each_listed_number_has_its_own_word() {
-        let words: Vec<_> = (1..=17).map(|number| Refusal { number, place: 0 }.word()).collect();
+        let words: Vec<_> = (1..=19).map(|number| Refusal { number, place: 0 }.word()).collect();
         let mut distinct = words.clone();
         distinct.sort();
         distinct.dedup();
-        assert_eq!(distinct.len(), 17);
+        assert_eq!(distinct.len(), 19);
         assert!(!words.contains(&"unlisted"));
     }
 
     #[test]
     fn a_number_outside_the_list_is_told_as_such() {
-        for number in [0, 18, 255] {
+        for number in [0, 20, 255] {
             assert_eq!(Refusal { number, place: 0 }.word(), "unlisted");
         }
     }
@@ -118,6 +124,6 @@ mod tests {
     #[test]
     fn a_refusal_about_no_single_sheet_names_none() {
         let text = Refusal { number: 16, place: 0 }.to_string();
-        assert_eq!(text, "refused, 16 small tray: the result needs more bytes than were lent");
+        assert_eq!(text, "refused, 16 small tray: a result needs more bytes than were lent");
     }
 }

@@ -1,6 +1,6 @@
 //! The calls on document 01's base example, and on its case 7: both forms agree,
 //! a refused call changes no lent byte, and bytes beyond the result keep their
-//! values.
+//! values; so do those beyond both results of a change.
 
 use migration::*;
 
@@ -127,6 +127,118 @@ fn what_is_asked_of_g_and_h_is_told() {
     let run = [0x00, 0x40, 0x10, 0x00];
     let answer = query(&edge, &edge, &edge, &node, &same, &same, &to_node, &run);
     assert_eq!(answer, refused(12, 0));
+}
+
+/// The base example's run at the start of a tray, and a pushed tray.
+struct Trays {
+    run: Vec<u8>,
+    length: usize,
+    pushed: Vec<u8>,
+}
+
+impl Trays {
+    fn of(run: usize, pushed: usize) -> Self {
+        let behind = vec![0xEE; run - RUN.len()];
+        Trays { run: [&RUN[..], &behind].concat(), length: RUN.len(), pushed: vec![0xEE; pushed] }
+    }
+
+    fn add(&mut self, table: usize, row: &[u8]) -> Result<Changed, Refusal> {
+        let Trays { run, length, pushed } = self;
+        let changed = add_row(&S, &T, &F, run, *length, table, row, pushed);
+        self.length = changed.map_or(self.length, |changed| changed.run);
+        changed
+    }
+
+    fn withdraw(&mut self, table: usize, row: usize) -> Result<Changed, Refusal> {
+        let Trays { run, length, pushed } = self;
+        let changed = withdraw_row(&S, &T, &F, run, *length, table, row, pushed);
+        self.length = changed.map_or(self.length, |changed| changed.run);
+        changed
+    }
+}
+
+/// A dent at joint 0, station 500; the run with it, and pushed.
+const DENT: [u8; 6] = [0x00, 0x00, 0x00, 0x00, 0xFA, 0x00];
+const MORE: [u8; 25] = [
+    0x00, 0xC0, 0x20, 0x04, 0x02, 0x00, 0x00, 0x00, 0x40, 0x00, 0x00, 0xAF, 0x00, //
+    0x00, 0x00, 0x4B, 0x00, 0x00, 0x00, 0x7D, 0x00, 0x00, 0x00, 0xB0, 0x40,
+];
+const MORE_PUSHED: [u8; 23] = [
+    0x01, 0x00, 0x20, 0x08, 0x00, 0x00, 0x01, 0x00, 0x00, 0x02, 0xBC, 0x00, //
+    0x00, 0x01, 0x2C, 0x00, 0x00, 0x01, 0xF4, 0x00, 0x00, 0x02, 0xC1,
+];
+
+/// Both trays have the results, and behind them what they had, in every tray that holds
+/// them; in a smaller one nothing changes.
+#[test]
+fn a_row_is_added_in_trays_that_hold_it() {
+    for (run, pushed) in (20..28).flat_map(|run| (0..26).map(move |pushed| (run, pushed))) {
+        let mut trays = Trays::of(run, pushed);
+        let added = trays.add(0, &DENT);
+        if run < 25 || pushed < 23 {
+            assert_eq!(added, refused(16, 0));
+            let before = Trays::of(run, pushed);
+            assert_eq!((trays.run, trays.pushed), (before.run, before.pushed));
+        } else {
+            assert_eq!(added, Ok(Changed { run: 25, pushed: 23 }));
+            assert_eq!(trays.run, [&MORE[..], &vec![0xEE; run - 25]].concat());
+            assert_eq!(trays.pushed, [&MORE_PUSHED[..], &vec![0xEE; pushed - 23]].concat());
+        }
+    }
+}
+
+/// A dent comes and goes: the run is as it was, and so is what is pushed.
+#[test]
+fn a_row_that_is_withdrawn_leaves_the_run_as_it_was() {
+    let mut trays = Trays::of(30, 30);
+    assert_eq!(trays.add(0, &DENT), Ok(Changed { run: 25, pushed: 23 }));
+    assert_eq!(trays.withdraw(0, 2), Ok(Changed { run: 20, pushed: 18 }));
+    assert_eq!(trays.run[..20], RUN);
+    assert_eq!(trays.run[20..25], MORE[20..]); // as the row left them
+    assert_eq!(trays.pushed[..18], sigma(&S, &T, &F, &RUN).unwrap());
+    assert_eq!(trays.pushed[18..23], MORE_PUSHED[18..]);
+    assert!(trays.run[25..].iter().chain(&trays.pushed[23..]).all(|&byte| byte == 0xEE));
+}
+
+/// The tests of the change itself have place 0, after the sheets' and after 12.
+#[test]
+fn each_test_of_a_change_is_told() {
+    let mut trays = Trays::of(30, 30);
+    assert_eq!(trays.add(3, &DENT), refused(18, 0));
+    assert_eq!(trays.add(usize::MAX, &DENT), refused(18, 0));
+    assert_eq!(trays.add(0, &DENT[..5]), refused(1, 0));
+    assert_eq!(trays.add(0, &[&DENT[..], &[0]].concat()), refused(2, 0));
+    assert_eq!(trays.add(0, &[0x01, 0x00, 0x00, 0x00, 0xFA, 0x00]), refused(9, 0)); // joint 2
+    assert_eq!(trays.withdraw(3, 0), refused(18, 0));
+    assert_eq!(trays.withdraw(0, 2), refused(18, 0));
+    assert_eq!(trays.withdraw(1 << 32, 0), refused(18, 0));
+    assert_eq!(trays.withdraw(0, 1 << 32), refused(18, 0));
+    assert_eq!(trays.withdraw(1, 1), refused(19, 0));
+    trays.length = 19;
+    assert_eq!(trays.withdraw(1, 1), refused(1, 4));
+    trays.length = usize::MAX;
+    assert_eq!(trays.withdraw(0, 0), refused(2, 4)); // the bytes behind the run
+    let before = Trays::of(30, 30);
+    assert_eq!((trays.run, trays.pushed), (before.run, before.pushed));
+    let mut whole = Trays { length: usize::MAX, ..Trays::of(20, 18) };
+    assert_eq!(whole.withdraw(0, 0), Ok(Changed { run: 14, pushed: 13 }));
+    // Case 4's mapping is uneven, which is told before the table.
+    let (edge, node, to_node) = ([0x10, 0x20, 0x00, 0x04], [0x08, 0x00, 0x00], [0x00, 0x00]);
+    let run = &mut [0x00, 0x40, 0x10, 0x00];
+    assert_eq!(add_row(&edge, &node, &to_node, run, 4, 9, &[], &mut [0; 9]), refused(12, 0));
+}
+
+/// 512 rows of a table without links and columns, whose rows have the empty sheet.
+#[test]
+fn a_run_has_at_most_512_rows() {
+    let (s, f) = ([0x08, 0x00, 0x00], [0x00]);
+    let (mut run, mut pushed) = ([0x7F, 0xC0], [0; 2]);
+    let both = Ok(Changed { run: 2, pushed: 2 });
+    assert_eq!(add_row(&s, &s, &f, &mut run, 2, 0, &[], &mut pushed), both);
+    assert_eq!((run, pushed), ([0x80, 0x00], [0x80, 0x00]));
+    assert_eq!(add_row(&s, &s, &f, &mut run, 2, 0, &[], &mut pushed), refused(15, 0));
+    assert_eq!(withdraw_row(&s, &s, &f, &mut run, 2, 0, 511, &mut pushed), both);
+    assert_eq!((run, pushed), ([0x7F, 0xC0], [0x7F, 0xC0]));
 }
 
 #[test]

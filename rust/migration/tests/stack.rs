@@ -11,11 +11,12 @@ use std::process::Command;
 use std::thread;
 use vectors::build::*;
 use vectors::call::{Call, Case};
+use vectors::changes::Streams;
 use vectors::digs::Dig;
 use vectors::full::{base, full};
 use vectors::hard::hard_sheets;
 use vectors::random::Random;
-use vectors::stream::fixed_and_refused;
+use vectors::stream::{fixed_and_refused, fixed_and_refused_changes};
 
 /// What a call may need.
 fn stack(call: Call) -> usize {
@@ -32,15 +33,21 @@ fn stack(call: Call) -> usize {
         Call::CheckPushed | Call::CheckRaw | Call::PushedToRaw | Call::RawToPushed => {
             STACK_MATCHINGS
         }
+        Call::AddRow | Call::WithdrawRow => STACK_CHANGES,
     }
 }
 
 /// The cases that a call may need most for: the base example, full size, each
 /// limit, each refusal, the longest sheets, the schemas with the longest paths; for
 /// Pi, and for the query between identities, the hard sheets that are soon answered, and
-/// 64 components.
+/// 64 components; for the changes a hundred by chance.
 fn cases(call: Call) -> Vec<Case> {
-    let fixed = fixed_and_refused(&mut Random::seeded(1));
+    let fixed = if call.is_change() {
+        let by_chance = Streams::seeded(1).filter(|case| case.call == call).take(100);
+        fixed_and_refused_changes(&mut Random::seeded(1)).into_iter().chain(by_chance).collect()
+    } else {
+        fixed_and_refused(&mut Random::seeded(1))
+    };
     let mut cases = [base(), full(), fixed, longest_paths()].concat();
     let soon = hard_sheets().into_iter().filter(|sheet| sheet.most.as_secs() <= 1);
     let hard = soon.map(|sheet| sheet.case).chain(deep());
@@ -111,9 +118,10 @@ fn most_needed(call: Call) -> (usize, String) {
     let mut most = (0, String::new());
     for case in cases(call) {
         let mut tray = vec![0; case.tray];
+        let mut run = case.run_before().unwrap_or_default();
         let need = painted::need(&mut || {
             // What it answers is compared elsewhere.
-            let _ = differential::call(case.call, &case.sheets, &mut tray);
+            let _ = differential::make(&case, &mut run, &mut tray);
         });
         most = most.max((need, case.name));
     }
@@ -164,7 +172,8 @@ fn the_child() {
         eprintln!("{}", case.name); // The last is the one that fails.
         let made = thread::Builder::new().stack_size(stack(call) + ALLOWANCE).spawn(move || {
             let mut tray = vec![0; case.tray];
-            let _ = differential::call(case.call, &case.sheets, &mut tray);
+            let mut run = case.run_before().unwrap_or_default();
+            let _ = differential::make(&case, &mut run, &mut tray);
         });
         made.expect("a thread").join().expect("a call that ends");
     }

@@ -14,7 +14,7 @@ fn outcome(case: &Case) -> Outcome {
         _ => unreachable!("another call"),
     };
     let told = |Refusal { number, place }| reference::Refusal { number, place };
-    Outcome { answer: answer.map_err(told), tray }
+    Outcome { answer: answer.map_err(told), tray, run: None }
 }
 
 #[test]

@@ -3,7 +3,7 @@
 //! comes first. ... Then 12, 13, 14, 15; then the matching sheet (1, 2, 17);
 //! last 16. A refusal is the number and the sheet's place counted from 1 (0 for
 //! 12 to 16)."  The calls of requests C-11 and C-14 of document 02 keep to that
-//! order; the query of C-15 has an order of its own.
+//! order; the query of C-15 and the changes of C-16 have orders of their own.
 
 use crate::chains::Chain;
 use crate::instance::Instance;
@@ -11,7 +11,8 @@ use crate::mapping::Mapping;
 use crate::matching::Matching;
 use crate::migrate::{self, Gathering, Pushing};
 use crate::paths::Path;
-use crate::refusal::{Judged, Refusal, SMALL_TRAY};
+use crate::refusal::{demand, Judged, Refusal, SMALL_TRAY};
+use crate::rows;
 use crate::schema::Schema;
 
 /// A judgement with the place of the sheet it is about.
@@ -190,6 +191,87 @@ pub fn raw_to_pushed(
     let sides = Sides::accept(s, t, f, run, book)?;
     let raw = sides.raw_matching(list)?;
     Ok(raw.to_pushed(&sides.mapped.t, &sides.mapped.f).to_sheet())
+}
+
+/// The whole sheets after an accepted change of request C-16 of document 02.
+#[derive(Debug, Clone, PartialEq, Eq)]
+pub struct ChangedSheets {
+    /// The changed run.
+    pub run: Vec<u8>,
+    /// "After each accepted change the pushed sheet equals a fresh Sigma of the
+    /// changed run".
+    pub pushed: Vec<u8>,
+}
+
+/// "Adding puts a row at its table's end with its links and values": both sheets
+/// afterwards.
+///
+/// `run` is "the run in a tray with its byte length", `row` "an added row as a
+/// sheet (links 9 bits, then values)".  The pushed tray's "old bytes are not
+/// read", so that it is not lent before [`into_trays`].
+pub fn add_row(
+    s: &[u8],
+    t: &[u8],
+    f: &[u8],
+    run: &[u8],
+    run_length: usize,
+    table: usize,
+    row: &[u8],
+) -> Result<ChangedSheets, Refusal> {
+    changed([s, t, f, run_sheet(run, run_length)], |s, run| rows::added(s, run, table, row))
+}
+
+/// "withdrawing takes a row out and moves later rows of that table down by one,
+/// links included": both sheets afterwards.  `row` is the row's number.
+pub fn withdraw_row(
+    s: &[u8],
+    t: &[u8],
+    f: &[u8],
+    run: &[u8],
+    run_length: usize,
+    table: usize,
+    row: usize,
+) -> Result<ChangedSheets, Refusal> {
+    changed([s, t, f, run_sheet(run, run_length)], |s, run| rows::withdrawn(s, run, table, row))
+}
+
+/// "the run in a tray with its byte length (one beyond the tray means the whole
+/// tray)": the sheet of the run.
+fn run_sheet(tray: &[u8], length: usize) -> &[u8] {
+    tray.get(..length).unwrap_or(tray)
+}
+
+/// A change of the run, over S: "S, T, mapping, run and 12 are judged first",
+/// then "the tests of the change itself have place 0".
+fn changed(
+    sheets: [&[u8]; 4],
+    change: impl FnOnce(&Schema, &Instance) -> Judged<Instance>,
+) -> Result<ChangedSheets, Refusal> {
+    let [s, t, f, run] = sheets;
+    let Mapped { s, t, f } = Mapped::accept(s, t, f)?;
+    let run = at(4, Instance::accept(&s, run))?;
+    let pushing = at(0, Pushing::along(&s, &t, &f))?;
+    let run = at(0, change(&s, &run))?;
+    let pushed = at(0, pushing.of(&run))?;
+    Ok(ChangedSheets { run: run.to_sheet(), pushed: pushed.to_sheet() })
+}
+
+/// Writes both sheets of a change into the lent trays, of which the run's is the
+/// one that the run stood in, and gives their byte lengths, the run's first: "16,
+/// for either tray, comes last in both changes; a refused change leaves run and
+/// pushed sheet unchanged."  The room is the whole tray, whatever length the run
+/// had; bytes beyond each result keep their values.
+pub fn into_trays(
+    result: Result<ChangedSheets, Refusal>,
+    run: &mut [u8],
+    pushed: &mut [u8],
+) -> Result<(usize, usize), Refusal> {
+    let sheets = result?;
+    let fit = sheets.run.len() <= run.len() && sheets.pushed.len() <= pushed.len();
+    at(0, demand(fit, SMALL_TRAY))?;
+    run[..sheets.run.len()].copy_from_slice(&sheets.run);
+    pushed[..sheets.pushed.len()].copy_from_slice(&sheets.pushed);
+    Ok((sheets.run.len(), sheets.pushed.len()))
 }
 
 /// Writes a result into a lent tray: 16 at place 0 where "the result needs more

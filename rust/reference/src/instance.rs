@@ -51,9 +51,7 @@ impl Instance {
     /// sheet.
     pub fn accept(schema: &Schema, sheet: &[u8]) -> Judged<Self> {
         let instance = Self::read(schema, sheet)?;
-        demand(instance.has_all_targets(schema), DANGLING)?;
-        demand(instance.is_on_scale(schema), OFF_SCALE)?;
-        demand(instance.obeys_equations(schema), BENT_ROW)?;
+        instance.check(schema)?;
         Ok(instance)
     }
 
@@ -74,6 +72,14 @@ impl Instance {
         }
         reader.finish()?;
         Ok(Instance { rows, links, values })
+    }
+
+    /// Judges the decoded instance: 9, then 10, then 11, each over the whole of
+    /// it.
+    pub(crate) fn check(&self, schema: &Schema) -> Judged<()> {
+        demand(self.has_all_targets(schema), DANGLING)?;
+        demand(self.is_on_scale(schema), OFF_SCALE)?;
+        demand(self.obeys_equations(schema), BENT_ROW)
     }
 
     /// No "target row at or beyond its table's count".
@@ -111,7 +117,8 @@ impl Instance {
         self.rows.iter().sum()
     }
 
-    /// This migrated instance, or 15 where it "has more than 512 rows".
+    /// This migrated or changed instance, or 15 where it "has more than 512
+    /// rows".
     pub fn unless_overfull(self) -> Judged<Self> {
         demand(self.total_rows() <= Self::MOST_ROWS, OVERFULL)?;
         Ok(self)
@@ -134,7 +141,7 @@ impl Instance {
     }
 }
 
-/// The values of one column.
-fn read_values(reader: &mut BitReader, count: usize) -> Judged<Vec<u32>> {
+/// The values of one column, or of one row.
+pub(crate) fn read_values(reader: &mut BitReader, count: usize) -> Judged<Vec<u32>> {
     (0..count).map(|_| reader.field(32)).collect()
 }

@@ -1,10 +1,12 @@
-//! The numbers of document 01's table "Why a sheet is sent back".
+//! The numbers of document 01's table "Why a sheet is sent back", and those that
+//! request C-16 of document 02 adds.
 
 /// "A refusal is the number and the sheet's place counted from 1 (0 for 12 to
-/// 16)."
+/// 16)."  By request C-16 "the tests of the change itself have place 0", whatever
+/// their number.
 #[derive(Debug, Clone, Copy, PartialEq, Eq, Hash)]
 pub struct Refusal {
-    /// The first number that applies, 1 to 17.
+    /// The first number that applies, 1 to 19.
     pub number: u8,
     /// The refused sheet's place in judging order, or 0.
     pub place: u8,
@@ -47,12 +49,17 @@ pub const UNEVEN: u8 = 12;
 pub const UNPAIRED: u8 = 13;
 /// "Pi, and a table has more than 64 components"
 pub const WIDE: u8 = 14;
-/// "a migrated instance has more than 512 rows"
+/// "a migrated instance has more than 512 rows", and by request C-16 of document
+/// 02 an added row "where the run would pass 512 rows"
 pub const OVERFULL: u8 = 15;
 /// "the result needs more bytes than were lent"
 pub const SMALL_TRAY: u8 = 16;
 /// "the list is not a matching"
 pub const NO_MATCH: u8 = 17;
+/// "absent, the named table or row does not exist"
+pub const ABSENT: u8 = 18;
+/// "still held, a row to be withdrawn that another row links to"
+pub const STILL_HELD: u8 = 19;
 
 /// The given number if `holds` is false.
 pub fn demand(holds: bool, number: u8) -> Judged<()> {

@@ -192,6 +192,12 @@ impl Schema {
         all.filter(|&e| self.edges[e].source == node).collect()
     }
 
+    /// The numbers of the edges to `node`, ascending.
+    pub fn edges_to(&self, node: usize) -> Vec<usize> {
+        let all = 0..self.edges.len();
+        all.filter(|&e| self.edges[e].target == node).collect()
+    }
+
     /// The schema sheet.  A count or number too large for its field is written
     /// by its low bits.
     pub fn to_sheet(&self) -> Vec<u8> {

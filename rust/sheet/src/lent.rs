@@ -1,9 +1,10 @@
 //! Sheets with the files they come from, ready to be lent to a call.
 
 use crate::bits::{Fault, Unwritable};
-use crate::instance::{read_folder, Instance};
+use crate::instance::{read_folder, Instance, Row};
 use crate::mapping::Mapping;
 use crate::matching::Matching;
+use crate::names::listed;
 use crate::path::Path;
 use crate::schema::Schema;
 use crate::text::{Lines, TextError};
@@ -91,6 +92,29 @@ impl Lent {
         let file = format!("path {text}");
         let path = Path::parse(schema, text).map_err(|what| vec![TextError::of(&file, what)])?;
         Self::written(&file, path.to_sheet(), Lines::default())
+    }
+
+    /// A row that is not yet in its table, from words as [`Row::parse`] reads them.
+    ///
+    /// # Errors
+    /// Where a word is wrong, or the table is missing.
+    pub fn row<S: AsRef<str>>(
+        schema: &Schema,
+        table: &str,
+        words: &[S],
+    ) -> Result<Self, Vec<TextError>> {
+        let file = format!("the new row of {table}");
+        let row = match schema.node(table) {
+            Some(number) => Row::parse(schema, number, words),
+            None => {
+                let known = listed(&schema.nodes);
+                Err(vec![format!("no node is named `{table}`; the nodes: {known}")])
+            }
+        };
+        let told = |whats: Vec<String>| -> Vec<TextError> {
+            whats.into_iter().map(|what| TextError::of(&file, what)).collect()
+        };
+        Self::written(&file, row.map_err(told)?.to_sheet(), Lines::default())
     }
 
     fn written(

@@ -5,8 +5,9 @@
 //! [`Matching`].  Each is read from text by `parse`, written as text, encoded
 //! by `to_sheet` and decoded by `from_sheet`.  A [`Chain`] of steps between equal
 //! paths comes only from a call: it is decoded, and written as lines.  A
-//! [`Question`] is a proved call with what it is lent, of a query by its [`Route`];
-//! when it refuses, [`Question::explain`] finds the line or row that causes it.
+//! [`Question`] is a proved call with what it is lent, of a query by its [`Route`], of
+//! a row that comes or goes by its [`Change`]; when it refuses, [`Question::explain`]
+//! finds the line or row that causes it.
 //!
 //! A run with two dents and a loss, pushed to the operator's book:
 //!
@@ -43,6 +44,7 @@
 
 mod bits;
 mod chain;
+mod change;
 mod classes;
 mod csv;
 mod draw;
@@ -63,10 +65,11 @@ mod why;
 
 pub use bits::{Fault, Unwritable};
 pub use chain::{Chain, Step};
+pub use change::{Change, ChangedRow};
 pub use classes::all_paths;
 pub use draw::{draw_mapping, draw_schema};
 pub use explain::{Cause, Explanation};
-pub use instance::{read_folder, Instance, TableText};
+pub use instance::{read_folder, Instance, Row, TableText};
 pub use lent::{Lent, LentSchema};
 pub use mapping::Mapping;
 pub use matching::Matching;

@@ -1,5 +1,6 @@
 //! A question to a proved call: which call, and the sheets it is lent.
 
+use crate::change::Change;
 use crate::instance::Instance;
 use crate::lent::{Lent, LentSchema};
 use crate::mapping::Mapping;
@@ -32,6 +33,10 @@ pub enum Call {
     Pi,
     /// Sigma of Pi of Delta, each along a mapping of its own.
     Query,
+    /// Adds a row to a run, and pushes the run.
+    AddRow,
+    /// Withdraws a row from a run, and pushes the run.
+    WithdrawRow,
     /// Checks a matching of the pushed side.
     CheckPushed,
     /// Checks a matching of the raw side.
@@ -81,6 +86,8 @@ impl Call {
             Call::Sigma => "sigma",
             Call::Pi => "pi",
             Call::Query => "query",
+            Call::AddRow => "add_row",
+            Call::WithdrawRow => "withdraw_row",
             Call::CheckPushed => "check_pushed",
             Call::CheckRaw => "check_raw",
             Call::PushedToRaw => "pushed_to_raw",
@@ -99,7 +106,7 @@ impl Call {
             Call::FirstPath => &[S, P],
             Call::SamePath | Call::PathChain => &[S, P, Q],
             Call::Delta => &[S, T, Mapping, Book],
-            Call::Sigma | Call::Pi => &[S, T, Mapping, Run],
+            Call::Sigma | Call::Pi | Call::AddRow | Call::WithdrawRow => &[S, T, Mapping, Run],
             Call::Query => &[
                 Schema(1),
                 Schema(2),
@@ -149,6 +156,13 @@ pub enum Answer {
     Equal(bool),
     /// The result's sheet; of a chain where the paths are equal.
     Sheet(Vec<u8>),
+    /// The sheets of the changed run and of what Sigma gives of it.
+    Changed {
+        /// The changed run.
+        run: Vec<u8>,
+        /// The changed run, pushed.
+        pushed: Vec<u8>,
+    },
 }
 
 /// Whether two paths are equal; the second one has place 3 here, though the call
@@ -196,10 +210,13 @@ pub struct Question {
     pub list: Option<Lent>,
     /// The schemas and mappings of a query.
     pub route: Route,
+    /// The change of the run.
+    pub(crate) change: Option<Change>,
     /// The stage of a query that this question is; none where it is asked for
     /// itself.
     pub(crate) stage: Option<Stage>,
-    /// The bytes of the lent tray; by default one that holds every result.
+    /// The bytes of the lent tray, of a change those of both; by default as many as
+    /// hold every result.
     pub tray: Option<usize>,
 }
 
@@ -217,6 +234,7 @@ impl Question {
             q: None,
             list: None,
             route: Route::default(),
+            change: None,
             stage: None,
             tray: None,
         }
@@ -289,6 +307,7 @@ impl Question {
             Call::Sigma => self.filled(|tray| migration::sigma_into(s, t, f, run, tray)),
             Call::Pi => self.filled(|tray| migration::pi_into(s, t, f, run, tray)),
             Call::Query => self.filled(|tray| self.query_into(tray)),
+            Call::AddRow | Call::WithdrawRow => self.ask_change(),
             Call::CheckPushed => migration::check_pushed(s, t, f, run, book, list).map(accepted),
             Call::CheckRaw => migration::check_raw(s, t, f, run, book, list).map(accepted),
             Call::PushedToRaw => {
@@ -301,7 +320,7 @@ impl Question {
     }
 
     /// The tray that is lent: by default one that holds every result.
-    fn new_tray(&self) -> Vec<u8> {
+    pub(crate) fn new_tray(&self) -> Vec<u8> {
         vec![0; self.tray.unwrap_or(self.call.most_bytes())]
     }
 

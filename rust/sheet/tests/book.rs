@@ -88,7 +88,7 @@ mend: send the links to other paths, or state `equation Anomaly.joint.upstream =
     1  Anomaly.[joint.upstream] = Anomaly.[reference]  equation 0, left to right (operator.schema line 29)
   equal to Metal_Loss.weld in S: no other path
   equal to Metal_Loss.spool.weld in S: no other path
-sigma refused, place 0: Sigma, a checker or transposition, and the mapping is not even
+sigma refused, place 0: Sigma, a change, a checker or transposition, and the mapping is not even
 mend: state `equation Metal_Loss.weld = Metal_Loss.spool.weld` in free-vendor.schema, or send one of them elsewhere
 ",
     );

@@ -9,8 +9,8 @@ use std::process::Stdio;
 #[test]
 fn bad_usage_has_status_2_and_points_to_the_help() {
     let folder = Folder::with_example("usage", "base");
-    let names = "pack, show, check, delta, sigma, pi, query, match, turn, first-path, same-path, \
-                 why, draw, version or help";
+    let names = "pack, show, check, delta, sigma, pi, query, add-row, withdraw-row, match, turn, \
+                 first-path, same-path, why, draw, version or help";
     let told = |line: &str, what: &str, see: &str| {
         folder.sheet(line).bad(&format!("sheet: {what}\nsee `sheet help{see}`\n"));
     };
@@ -20,7 +20,7 @@ fn bad_usage_has_status_2_and_points_to_the_help() {
     told("--fast pack", "no option is named `--fast`", "");
     told(
         "pack",
-        "expected `sheet pack schema|mapping|instance|matching|path` and what to read",
+        "expected `sheet pack schema|mapping|instance|matching|path|row` and what to read",
         " pack",
     );
     told("check path", "expected `sheet check schema|mapping|instance` and what to read", " check");
@@ -50,6 +50,43 @@ fn bad_usage_has_status_2_and_points_to_the_help() {
     told("why vendor.schema Dent Dent --tray 1", "why takes no --tray", " why");
     told("why vendor.schema sheet:- sheet:-", "standard input can be lent only once", " why");
     told("check instance - -", "standard input can be lent only once", " check");
+    told("pack row vendor.schema", "expected SCHEMA TABLE NAME=VALUE ..; 1 given", " pack");
+}
+
+#[test]
+fn bad_usage_of_changes() {
+    let folder = Folder::with_example("usage-changes", "base");
+    let told = |line: &str, what: &str, see: &str| {
+        folder.sheet(line).bad(&format!("sheet: {what}\nsee `sheet help{see}`\n"));
+    };
+    let add = "expected S T MAPPING RUN TABLE NAME=VALUE ..";
+    told("add-row", &format!("{add}; 0 given"), " add-row");
+    told(&format!("add-row {MAPPED} run"), &format!("{add}; 4 given"), " add-row");
+    let withdraw = "expected S T MAPPING RUN TABLE ROW";
+    told(
+        &format!("withdraw-row {MAPPED} run Dent"),
+        &format!("{withdraw}; 5 given"),
+        " withdraw-row",
+    );
+    told(
+        &format!("withdraw-row {MAPPED} run Dent 0 1"),
+        &format!("{withdraw}; 7 given"),
+        " withdraw-row",
+    );
+    told(&format!("add-row {MAPPED} run Joint --hex"), "add-row takes no --hex", " add-row");
+    told(&format!("sigma {MAPPED} run --pushed a"), "sigma takes no --pushed", " sigma");
+    told(
+        &format!("add-row {MAPPED} run Joint --pushed"),
+        "expected a file or folder after --pushed",
+        "",
+    );
+    let once = "standard input can be lent only once";
+    told("withdraw-row - - vendor-to-operator.mapping run Dent 0", once, " withdraw-row");
+    folder.sheet("pack instance vendor.schema run -o run.sheet").silent();
+    let line = format!("add-row {MAPPED} - Dent sheet:-");
+    let words: Vec<&str> = line.split(' ').collect();
+    let ran = folder.run(&words, &folder.read("run.sheet"));
+    ran.bad(&format!("sheet: {once}\nsee `sheet help`\n"));
 }
 
 #[test]
@@ -68,6 +105,8 @@ fn help_goes_to_standard_output() {
         "sigma",
         "pi",
         "query",
+        "add-row",
+        "withdraw-row",
         "match",
         "turn",
         "first-path",

@@ -3,6 +3,7 @@
 
 mod common;
 
+use common::cause_is_found;
 use common::generate::{self, Random};
 use sheet::{
     Answer, Call, Fault, Instance, Lent, LentSchema, Mapping, Matching, Path, Question, Role,
@@ -89,7 +90,8 @@ fn set(question: &mut Question, role: Role, sheet: Vec<u8>) {
     }
 }
 
-const CALLS: [Call; 14] = [
+/// Changes are asked without their rows, which have tests of their own.
+const CALLS: [Call; 16] = [
     Call::CheckSchema,
     Call::CheckMapping,
     Call::CheckInstance,
@@ -100,27 +102,17 @@ const CALLS: [Call; 14] = [
     Call::Sigma,
     Call::Pi,
     Call::Query,
+    Call::AddRow,
+    Call::WithdrawRow,
     Call::CheckPushed,
     Call::CheckRaw,
     Call::PushedToRaw,
     Call::RawToPushed,
 ];
 
-/// The number of the refusal, whose cause is found and told; 0 if accepted.
-fn cause_is_found(question: &Question, seed: u64) -> usize {
-    let Err(refusal) = question.ask() else { return 0 };
-    let explanation = question.explain(refusal);
-    let text = explanation.to_string();
-    assert!(!explanation.causes.is_empty(), "seed {seed}: {text}");
-    assert_eq!(explanation.refusal, refusal);
-    let tag = format!("({}, {})", refusal.number, refusal.word());
-    assert!(text.lines().next().unwrap().ends_with(&tag), "seed {seed}: {text}");
-    usize::from(refusal.number)
-}
-
 #[test]
 fn the_cause_is_found_along_mappings_at_random() {
-    let mut met = [0; 18];
+    let mut met = [0; 20];
     for seed in 0..400 {
         let random = &mut Random::seeded(seed);
         let (mut s, t) = (generate::schema(random), generate::schema(random));
@@ -165,7 +157,7 @@ fn span(random: &mut Random, s2: &mut Schema, s1: &Schema, s3: &Schema) -> [Mapp
 
 #[test]
 fn the_cause_is_found_along_routes_at_random() {
-    let mut met = [0; 18];
+    let mut met = [0; 20];
     for seed in 0..600 {
         let random = &mut Random::seeded(seed);
         let [s1, mut s2, mut s3, s4] = [(); 4].map(|()| generate::schema(random));
@@ -194,7 +186,7 @@ fn the_cause_is_found_along_routes_at_random() {
 
 #[test]
 fn the_cause_of_every_refusal_is_found() {
-    let mut met = [0; 18];
+    let mut met = [0; 20];
     for seed in 0..160 {
         let random = &mut Random::seeded(seed);
         for call in CALLS {

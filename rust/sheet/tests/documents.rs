@@ -69,7 +69,7 @@ fn the_pages_show_what_the_command_does() {
         pages += 1;
     }
     assert_eq!(pages, 5);
-    assert_eq!((of_the_book, of_the_digs), (8, 3));
+    assert_eq!((of_the_book, of_the_digs), (9, 3));
 }
 
 #[test]

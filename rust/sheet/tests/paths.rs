@@ -125,7 +125,7 @@ fn first_path_tells_what_is_refused() {
     }
     folder.sheet("first-path --tray 2 ruled.schema A.c.d").refused(
         "the tray: the result needs 3 bytes, but 2 were lent (16, small tray)
-first_path refused, place 0: the result needs more bytes than were lent
+first_path refused, place 0: a result needs more bytes than were lent
 mend: lend 3 bytes; 11 hold every result
 ",
     );

@@ -8,7 +8,7 @@ use common::{bare_rows, equal_links, lines, Folder, MAPPED};
 #[test]
 fn refusal_12_uneven() {
     let folder = Folder::new("refusal-12");
-    let because = "Sigma, a checker or transposition, and the mapping is not even";
+    let because = "Sigma, a change, a checker or transposition, and the mapping is not even";
     let free = ["node A", "node B", "link A.x -> B", "link A.y -> B"];
     folder.write("two.schema", lines(&free));
     folder.write("one.schema", lines(&free[..3]));
@@ -63,7 +63,7 @@ fn refusal_12_uneven_by_steps() {
     let told: String = notes.iter().map(|note| format!("  {note}\n")).collect();
     folder.sheet("sigma two.schema many.schema fold.mapping run").refused(&format!(
         "{what} (12, uneven)
-{told}sigma refused, place 0: Sigma, a checker or transposition, and the mapping is not even
+{told}sigma refused, place 0: Sigma, a change, a checker or transposition, and the mapping is not even
 mend: state `equation A.x = A.y` in two.schema, or send one of them elsewhere
 "
     ));
@@ -82,7 +82,7 @@ sigma, match and turn: not taken (12, uneven)
     folder.sheet("sigma none.schema many.schema in.mapping none").refused(
         "in.mapping line 1: no path from A goes to A.l0 of T (12, uneven)
   equal to A.l0 in T: A.l1, A.l2, A.l3, A.l4, A.l5 and 2 more
-sigma refused, place 0: Sigma, a checker or transposition, and the mapping is not even
+sigma refused, place 0: Sigma, a change, a checker or transposition, and the mapping is not even
 mend: add a link to A in none.schema and send it there, or take A.l0 out of T
 ",
     );
@@ -91,7 +91,7 @@ mend: add a link to A in none.schema and send it there, or take A.l0 out of T
 #[test]
 fn refusal_12_uneven_columns() {
     let folder = Folder::new("refusal-12-columns");
-    let because = "Sigma, a checker or transposition, and the mapping is not even";
+    let because = "Sigma, a change, a checker or transposition, and the mapping is not even";
     let wide = ["node A", "column A.deep : depth", "column A.deeper : depth"];
     folder.write("wide.schema", lines(&wide));
     folder.write("slim.schema", lines(&wide[..2]));
@@ -178,7 +178,7 @@ fn refusal_15_overfull() {
     for t in ["pairs.schema", "equal.schema"] {
         folder.sheet(&format!("pi parts.schema {t} parts.mapping run")).refused(
             "run: a row of Pair is a fitting choice of one row each from Joint (30 rows), Weld (20 rows): up to 600 rows, at most 512 in all tables (15, overfull)
-pi refused, place 0: a migrated instance has more than 512 rows
+pi refused, place 0: a migrated instance, or a run with an added row, has more than 512 rows
 mend: lend a run with fewer rows in these tables
 ",
         );
@@ -188,7 +188,7 @@ mend: lend a run with fewer rows in these tables
     folder.write("book/Part.csv", bare_rows(300));
     folder.sheet("delta parts.schema one.schema one.mapping book").refused(
         "book: pulled back it has 600 rows (Joint 300 as Part, Weld 300 as Part), at most 512 (15, overfull)
-delta refused, place 0: a migrated instance has more than 512 rows
+delta refused, place 0: a migrated instance, or a run with an added row, has more than 512 rows
 mend: lend a book with fewer rows in the tables that are copied several times
 ",
     );
@@ -200,7 +200,7 @@ fn refusal_16_small_tray() {
     let folder = Folder::with_example("refusal-16", "base");
     folder.sheet(&format!("sigma --tray 17 {MAPPED} run -o pushed")).refused(
         "the tray: the result needs 18 bytes, but 17 were lent (16, small tray)
-sigma refused, place 0: the result needs more bytes than were lent
+sigma refused, place 0: a result needs more bytes than were lent
 mend: lend 18 bytes; 51220 hold every result
 ",
     );
@@ -208,7 +208,7 @@ mend: lend 18 bytes; 51220 hold every result
     assert_eq!(folder.read("pushed.sheet").len(), 18);
     folder.sheet(&format!("turn --tray=5 raw-to-pushed {MAPPED} run book raw.csv")).refused(
         "the tray: the result needs 6 bytes, but 5 were lent (16, small tray)
-raw_to_pushed refused, place 0: the result needs more bytes than were lent
+raw_to_pushed refused, place 0: a result needs more bytes than were lent
 mend: lend 6 bytes; 576 hold every result
 ",
     );

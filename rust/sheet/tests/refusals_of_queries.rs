@@ -199,7 +199,7 @@ mend: send fewer nodes of S2 to where many paths of S3 lead, or equate paths of 
 
 #[test]
 fn refusal_12_uneven_is_of_h() {
-    let because = "Sigma, a checker or transposition, and the mapping is not even";
+    let because = "Sigma, a change, a checker or transposition, and the mapping is not even";
     let folder = changed(
         "query-12",
         "digs.schema",
@@ -249,7 +249,7 @@ fn refusal_12_uneven_by_steps_in_s4() {
     1  A.[y] = A.[x]  equation 0, right to left (ruled.schema line 5)
   equal to A.x in S3: no other path
   equal to A.y in S3: no other path
-query refused, place 0 (Sigma along H): Sigma, a checker or transposition, and the mapping is not even
+query refused, place 0 (Sigma along H): Sigma, a change, a checker or transposition, and the mapping is not even
 mend: state `equation A.x = A.y` in free.schema, or send one of them elsewhere
 ",
     );
@@ -266,7 +266,7 @@ fn refusal_15_overfull_is_of_delta_or_of_pi() {
         "run: pulled back by Delta along F it has 627 rows (Dent 5 as Dent, Dent_Joint 300 as Spool, \
          Dent_Marker 5 as Marker, Loss 7 as Metal_Loss, Loss_Joint 300 as Spool, Loss_Marker 5 as Marker, \
          Section 5 as Section), at most 512 (15, overfull)
-query refused, place 0 (Delta along F): a migrated instance has more than 512 rows
+query refused, place 0 (Delta along F): a migrated instance, or a run with an added row, has more than 512 rows
 mend: lend a run with fewer rows in the tables that are copied several times
 ",
     );
@@ -277,7 +277,7 @@ mend: lend a run with fewer rows in the tables that are copied several times
          Loss (7 rows), Loss_Marker (200 rows): up to 1400 rows, at most 512 in all tables (15, overfull)
   Delta along F gives it 439 rows (Dent 5, Dent_Joint 11, Dent_Marker 200, Loss 7, Loss_Joint 11, Loss_Marker 200, Section 5)
   Pi along G makes of them at most: Dent_Dig 1000, Loss_Dig 1400, Section 5
-query refused, place 0 (Pi along G): a migrated instance has more than 512 rows
+query refused, place 0 (Pi along G): a migrated instance, or a run with an added row, has more than 512 rows
 mend: lend a run with fewer rows in the tables that these are copies of
 ",
     );
@@ -289,7 +289,7 @@ fn refusal_16_small_tray_is_of_the_whole() {
     let lent = format!("{DIG_SCHEMAS} {DIG_MAPPINGS} run");
     folder.sheet(&format!("query --tray 349 {lent} -o made.sheet")).refused(
         "the tray: the result needs 350 bytes, but 349 were lent (16, small tray)
-query refused, place 0: the result needs more bytes than were lent
+query refused, place 0: a result needs more bytes than were lent
 mend: lend 350 bytes; 51220 hold every result
 ",
     );

@@ -3,7 +3,7 @@
 mod common;
 
 use common::generate::{self, Random};
-use sheet::{aligned_tables, Instance, Mapping, Matching, Path, Schema, TableText};
+use sheet::{aligned_tables, Instance, Mapping, Matching, Path, Row, Schema, TableText};
 
 const CASES: u64 = 400;
 
@@ -132,4 +132,28 @@ fn numbers_that_no_field_holds_are_told() {
     let nodes = (0..32).map(|number| format!("n{number}")).collect();
     let schema = Schema { nodes, ..Schema::default() };
     told("the number of nodes is 32, but its field holds at most 31", schema.to_sheet());
+}
+
+#[test]
+fn rows_go_through_the_sheet() {
+    for seed in 0..CASES {
+        let random = &mut Random::seeded(seed);
+        let schema = generate::schema(random);
+        let table = random.below(schema.nodes.len());
+        let row = Row {
+            links: schema.links_from(table).iter().map(|_| random.below(512)).collect(),
+            values: schema.columns_at(table).iter().map(|_| random.bits() as u32).collect(),
+        };
+        let written = random.shuffled(generate::row_words(&schema, table, &row));
+        let read = Row::parse(&schema, table, &written).unwrap();
+        assert_eq!(read, row);
+        let sheet = read.to_sheet().unwrap();
+        assert_eq!(sheet.len(), (9 * row.links.len() + 32 * row.values.len()).div_ceil(8));
+        assert_eq!(Row::from_sheet(&schema, table, &sheet).unwrap(), row);
+        if let Some(left_out) = written.first() {
+            let name = left_out.split('=').next().unwrap();
+            let told = Row::parse(&schema, table, &written[1..]).unwrap_err().concat();
+            assert!(told.starts_with(&format!("no {name}; expected ")), "{told}");
+        }
+    }
 }

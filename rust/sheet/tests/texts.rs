@@ -279,3 +279,51 @@ fn paths() {
         .sheet("pack path vendor.schema Dint")
         .bad("path Dint: no node is named `Dint`; the nodes: Dent, Joint, Loss\n");
 }
+
+#[test]
+fn words_that_make_no_row() {
+    let folder = Folder::with_example("row-words", "base");
+    let before = folder.files();
+    let told = |words: &str, told: &[&str]| {
+        let errors: String =
+            told.iter().map(|told| format!("the new row of Dent: {told}\n")).collect();
+        let in_place = "-o run --pushed pushed --force";
+        folder.sheet(&format!("add-row {MAPPED} run Dent {words} {in_place}")).bad(&errors);
+        folder.sheet(&format!("pack row vendor.schema Dent {words}")).bad(&errors);
+    };
+    let expected = "expected joint=(row of Joint) station=(station)";
+    told("", &[&format!("no joint, station; {expected}")]);
+    told("station=650", &[&format!("no joint; {expected}")]);
+    told("joint=0 650", &[&format!("`650`; {expected}")]);
+    told(
+        "joint=0 row=2 weld=1",
+        &[
+            "Dent has no link or column row; it has: joint, station",
+            "Dent has no link or column weld; it has: joint, station",
+        ],
+    );
+    told("joint=0 station=1 joint=0", &["joint stands twice; expected each name once"]);
+    let number = "expected a whole number from 0 to 4294967295";
+    told("joint=0 station=", &[&format!("station is empty; {number}")]);
+    told("joint=0 station=6.5", &[&format!("station is `6.5`; {number}")]);
+    told("joint=0 station=4294967296", &[&format!("station is `4294967296`; {number}")]);
+    assert_eq!(folder.files(), before);
+    folder
+        .sheet("pack row vendor.schema Dnet joint=0")
+        .bad("the new row of Dnet: no node is named `Dnet`; the nodes: Dent, Joint, Loss\n");
+}
+
+#[test]
+fn words_of_a_row_without_links_and_columns() {
+    let folder = Folder::with_example("row-without-words", "base");
+    folder
+        .sheet(&format!("add-row {MAPPED} run Joint joint=0"))
+        .bad("the new row of Joint: Joint has no link or column joint; it has: none\n");
+    folder
+        .sheet(&format!("add-row {MAPPED} run Joint 0"))
+        .bad("the new row of Joint: `0`; expected nothing\n");
+    // The run is judged before the words are read.
+    folder.write("run/Loss.csv", "row,joint,station\n0,2,705\n");
+    let ran = folder.sheet(&format!("add-row {MAPPED} run Joint 0"));
+    assert!(ran.err().starts_with("run/Loss.csv row 0: joint 2, but Joint has 2 rows (9, "));
+}

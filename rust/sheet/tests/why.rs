@@ -192,7 +192,7 @@ fn a_small_tray_is_told() {
     assert_eq!(
         told(&question),
         "the tray: the result needs 1 byte, but 0 were lent (16, small tray)
-path_chain refused, place 0: the result needs more bytes than were lent
+path_chain refused, place 0: a result needs more bytes than were lent
 mend: lend 1 byte; 320 hold every result
 "
     );

@@ -3,17 +3,19 @@
 use crate::call::{Call, Case};
 use reference::*;
 
-/// The byte that every tray is full of before a call.
-pub const FILLING: u8 = 0xA5;
+pub use crate::call::FILLING;
 
 /// What a call gives and leaves behind.
 #[derive(Debug, Clone, PartialEq, Eq)]
 pub struct Outcome {
     /// For an accepted call the byte length of its result; 0 for a check, and where
-    /// there is no chain.
+    /// there is no chain; for a change 65,536 times the run's length plus the pushed
+    /// sheet's.
     pub answer: Result<usize, Refusal>,
     /// The whole tray afterwards.
     pub tray: Vec<u8>,
+    /// Of a change the run's whole tray afterwards.
+    pub run: Option<Vec<u8>>,
 }
 
 impl Outcome {
@@ -24,6 +26,12 @@ impl Outcome {
             Ok(number) => number as u64,
             Err(refusal) => (1 << 32) + 256 * u64::from(refusal.number) + u64::from(refusal.place),
         }
+    }
+
+    /// The byte lengths of an accepted change: of the run, and of the pushed sheet.
+    pub fn lengths(&self) -> Option<(usize, usize)> {
+        let answer = self.answer.ok().filter(|_| self.run.is_some());
+        answer.map(|answer| (answer / 65_536, answer % 65_536))
     }
 }
 
@@ -62,19 +70,44 @@ fn number(case: &Case) -> Result<usize, Refusal> {
     }
 }
 
+/// The sheets that the reference gives for a change, before they are written to the
+/// trays.
+fn changed(case: &Case) -> Result<ChangedSheets, Refusal> {
+    let number = |number: u64| usize::try_from(number).expect("64 bits");
+    let numbers: Vec<usize> = case.numbers.iter().copied().map(number).collect();
+    match (case.sheets.as_slice(), numbers.as_slice()) {
+        ([s, t, f, run, row], &[length, table]) => add_row(s, t, f, run, length, table, row),
+        ([s, t, f, run], &[length, table, row]) => withdraw_row(s, t, f, run, length, table, row),
+        _ => unreachable!("a change, lent its sheets and numbers"),
+    }
+}
+
 /// The reference's outcome of a case.
 pub fn reference_outcome(case: &Case) -> Outcome {
-    let mut tray = vec![FILLING; case.tray];
-    let answer = if case.call.has_tray() {
-        into_tray_or_none(result(case), &mut tray)
-    } else {
-        number(case)
+    let (mut tray, mut run) = (case.tray_before(), case.run_before());
+    let answer = match &mut run {
+        Some(run) => {
+            into_trays(changed(case), run, &mut tray).map(|(run, pushed)| 65_536 * run + pushed)
+        }
+        None if case.call.has_tray() => into_tray_or_none(result(case), &mut tray),
+        None => number(case),
     };
-    Outcome { answer, tray }
+    Outcome { answer, tray, run }
 }
 
 /// The byte length of a case's result, if the call is accepted with a tray that
-/// holds it and there is one.
+/// holds it and there is one; of a change that of the pushed sheet, where the run's tray
+/// holds the changed run.
 pub fn result_length(case: &Case) -> Option<usize> {
+    if case.call.is_change() {
+        let (run, pushed) = changed_lengths(case)?;
+        return (run <= case.sheets[3].len()).then_some(pushed);
+    }
     result(case).ok().flatten().map(|sheet| sheet.len())
+}
+
+/// The byte lengths of the run and of the pushed sheet after a change, if it is accepted
+/// with trays that hold them.
+pub fn changed_lengths(case: &Case) -> Option<(usize, usize)> {
+    changed(case).ok().map(|sheets| (sheets.run.len(), sheets.pushed.len()))
 }

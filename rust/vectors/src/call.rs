@@ -29,6 +29,11 @@ pub enum Call {
     PathChain,
     /// Four schemas, F, G, H, a run over the first; a tray.
     Query,
+    /// S, T, a mapping, a run in its tray, a row; the run's byte length, a table; a tray.
+    AddRow,
+    /// S, T, a mapping, a run in its tray; the run's byte length, a table, a row's number;
+    /// a tray.
+    WithdrawRow,
 }
 
 /// What stands on a sheet.
@@ -52,11 +57,14 @@ pub enum Kind {
     Path,
     /// A list of partners.
     List,
+    /// A row for a table of the schema at place 1.  What is wrong with it is told at
+    /// place 0.
+    Row,
 }
 
 impl Call {
     /// All calls.
-    pub const ALL: [Call; 13] = [
+    pub const ALL: [Call; 15] = [
         Call::CheckSchema,
         Call::CheckMapping,
         Call::CheckInstance,
@@ -70,7 +78,12 @@ impl Call {
         Call::RawToPushed,
         Call::PathChain,
         Call::Query,
+        Call::AddRow,
+        Call::WithdrawRow,
     ];
+
+    /// The calls that change a run in its tray.
+    pub const CHANGES: [Call; 2] = [Call::AddRow, Call::WithdrawRow];
 
     /// The call's name in the library.
     pub fn name(self) -> &'static str {
@@ -88,13 +101,17 @@ impl Call {
             Call::RawToPushed => "raw_to_pushed",
             Call::PathChain => "path_chain",
             Call::Query => "query",
+            Call::AddRow => "add_row",
+            Call::WithdrawRow => "withdraw_row",
         }
     }
 
     /// The sheets that the call takes, by place: "Sheets are judged in the order
     /// S, T, mapping, instance or instances, path or paths; of transposition's
     /// two instances the run over S comes first. ... then the matching sheet".  Of
-    /// the query, by request C-15, "schemas first, then F, G, H, then the run".
+    /// the query, by request C-15, "schemas first, then F, G, H, then the run".  Of a
+    /// change, by request C-16, "S, T, mapping, run and 12 are judged first", then the
+    /// added row.
     pub fn sheets(self) -> &'static [Kind] {
         use Kind::*;
         const F: Kind = Mapping { from: 1, to: 2 };
@@ -121,6 +138,31 @@ impl Call {
                 Mapping { from: 3, to: 4 },
                 OF_S,
             ],
+            Call::AddRow => &[Schema, Schema, F, OF_S, Row],
+            Call::WithdrawRow => &[Schema, Schema, F, OF_S],
+        }
+    }
+
+    /// The place that a refusal of a sheet names, by the sheet's number from 0: "the
+    /// tests of the change itself have place 0".
+    pub fn place(self, sheet: usize) -> u8 {
+        match self.sheets()[sheet] {
+            Kind::Row => 0,
+            _ => sheet as u8 + 1,
+        }
+    }
+
+    /// Whether the call changes a run in its tray, so that it is lent two trays.
+    pub fn is_change(self) -> bool {
+        Self::CHANGES.contains(&self)
+    }
+
+    /// How many numbers the call is lent.
+    pub fn numbers(self) -> usize {
+        match self {
+            Call::AddRow => 2,
+            Call::WithdrawRow => 3,
+            _ => 0,
         }
     }
 
@@ -129,10 +171,14 @@ impl Call {
         use Call::*;
         match self {
             CheckSchema | CheckMapping | CheckInstance | CheckPushed | CheckRaw => false,
-            FirstPath | Delta | Sigma | Pi | PushedToRaw | RawToPushed | PathChain | Query => true,
+            FirstPath | Delta | Sigma | Pi | PushedToRaw | RawToPushed | PathChain | Query
+            | AddRow | WithdrawRow => true,
         }
     }
 }
+
+/// The byte that a tray is full of before a call.
+pub const FILLING: u8 = 0xA5;
 
 /// One call with the sheets and the tray that it is lent.
 #[derive(Debug, Clone, PartialEq, Eq)]
@@ -141,10 +187,16 @@ pub struct Case {
     pub name: String,
     /// The call.
     pub call: Call,
-    /// The sheets, by place.
+    /// The sheets, by place; of a change the fourth is the run's whole tray.
     pub sheets: Vec<Vec<u8>>,
+    /// Of a change the run's byte length, the table, and where a row is withdrawn its
+    /// number.
+    pub numbers: Vec<u64>,
     /// The tray's length; 0 for a call without one.
     pub tray: usize,
+    /// What stands at the start of the tray before the call, not longer than the tray; the
+    /// rest is filling.
+    pub standing: Vec<u8>,
 }
 
 impl Case {
@@ -162,8 +214,19 @@ impl Case {
 
     /// A case of a call without a tray, or with an empty one.
     pub fn new(name: impl Into<String>, call: Call, sheets: Vec<Vec<u8>>) -> Self {
+        Self::with_numbers(name, call, sheets, vec![])
+    }
+
+    /// A case of a call with an empty tray, or without one.
+    pub fn with_numbers(
+        name: impl Into<String>,
+        call: Call,
+        sheets: Vec<Vec<u8>>,
+        numbers: Vec<u64>,
+    ) -> Self {
         assert_eq!(sheets.len(), call.sheets().len());
-        Case { name: name.into(), call, sheets, tray: 0 }
+        assert_eq!(numbers.len(), call.numbers());
+        Case { name: name.into(), call, sheets, numbers, tray: 0, standing: vec![] }
     }
 
     /// The case with a tray of this length, if the call has one.
@@ -172,5 +235,30 @@ impl Case {
             self.tray = length.min(Self::MOST_TRAY);
         }
         self
+    }
+
+    /// The bytes of a sheet, by its number from 0: of a change "the run in a tray with its
+    /// byte length (one beyond the tray means the whole tray)".
+    pub fn sheet(&self, number: usize) -> &[u8] {
+        let lent = self.sheets[number].as_slice();
+        match (self.call.is_change(), number) {
+            (true, 3) => {
+                let length = usize::try_from(self.numbers[0]).unwrap_or(usize::MAX);
+                &lent[..length.min(lent.len())]
+            }
+            _ => lent,
+        }
+    }
+
+    /// The tray before the call.
+    pub fn tray_before(&self) -> Vec<u8> {
+        let mut tray = vec![FILLING; self.tray];
+        tray[..self.standing.len()].copy_from_slice(&self.standing);
+        tray
+    }
+
+    /// The run's tray before a change.
+    pub fn run_before(&self) -> Option<Vec<u8>> {
+        self.call.is_change().then(|| self.sheets[3].clone())
     }
 }

@@ -3,8 +3,10 @@
 use crate::base::*;
 use crate::build::*;
 use crate::call::{Call, Case};
+use crate::change_limits::base_dent;
 use crate::digs::Dig;
 use crate::queries::base_dig;
+use crate::trays::{Change, Trays};
 use reference::plain::*;
 
 /// Every call on document 01's base example.
@@ -33,7 +35,13 @@ pub fn base() -> Vec<Case> {
         (Call::RawToPushed, raw),
         (Call::Query, base_dig().sheets()),
     ];
-    cases.map(|(call, sheets)| with_room("base", call, sheets)).to_vec()
+    let mut cases = cases.map(|(call, sheets)| with_room("base", call, sheets)).to_vec();
+    let changes = [Change::add(0, &base_dent()), Change::withdraw(0, 0)];
+    for (call, change) in Call::CHANGES.into_iter().zip(changes) {
+        let trays = Trays::with_room([s.clone(), t.clone(), f.clone(), run.clone()]);
+        cases.push(trays.case(format!("base.{}", call.name()), change));
+    }
+    cases
 }
 
 /// The case of a size, with a tray that holds every result.
@@ -122,7 +130,7 @@ pub fn rows(schema: &Schema, each: usize) -> Instance {
 }
 
 /// Every call on sheets of full size: S with 16 nodes, 32 edges, 16 columns, 32
-/// equations, 256 paths, the run with 512 rows; Sigma and the matching calls
+/// equations, 256 paths, the run with 512 rows; Sigma, the matching calls and the changes
 /// along the mapping of two copies to one; the query with four such schemas.
 pub fn full() -> Vec<Case> {
     let t = half_schema();
@@ -156,7 +164,31 @@ pub fn full() -> Vec<Case> {
         (Call::RawToPushed, sides(&raw)),
         (Call::Query, full_dig().sheets()),
     ];
-    cases.map(|(call, sheets)| with_room("full", call, sheets)).to_vec()
+    let mut cases = cases.map(|(call, sheets)| with_room("full", call, sheets)).to_vec();
+    cases.extend(full_changes());
+    cases
+}
+
+/// A row added to 511 at full size, and a row withdrawn from 512: of the first table, which
+/// no link leads to, its last and its first.
+fn full_changes() -> [Case; 2] {
+    let t = half_schema();
+    let (s, f) = two_copies(&t);
+    let run = rows(&s, 32);
+    let less = reference::rows::withdrawn(&s, &run, 0, 31).expect("a row that nothing links to");
+    let columns = s.attributes_at(0).into_iter();
+    let last = Row {
+        links: s.edges_from(0).into_iter().map(|edge| run.links[edge][31]).collect(),
+        values: columns.map(|column| run.values[column][31]).collect(),
+    };
+    let change = |call: Call, run: &Instance, change: Change| {
+        let sheets = [s.to_sheet(), t.to_sheet(), f.to_sheet(), run.to_sheet()];
+        Trays::with_room(sheets).case(format!("full.{}", call.name()), change)
+    };
+    [
+        change(Call::AddRow, &less, Change::add(0, &last)),
+        change(Call::WithdrawRow, &run, Change::withdraw(0, 0)),
+    ]
 }
 
 /// Sigma at full size but for the number of rows.

@@ -83,7 +83,7 @@ fn empty(tables: usize, edges: usize) -> Instance {
 /// The hard sheets.
 pub fn hard_sheets() -> Vec<HardSheet> {
     let all: [Vec<HardSheet>; 4] =
-        [of_components().into(), of_points().into(), hardest().into(), of_kinds().into()];
+        [of_components().into(), of_points().into(), hardest().into(), of_kinds()];
     all.concat()
 }
 

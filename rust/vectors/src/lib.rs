@@ -8,6 +8,8 @@
 //! - [`papers`], [`full`], [`limits`], [`first_paths`], [`chains`], [`queries`],
 //!   [`query_refusals`], [`puzzles`], [`stream`] are the cases, [`record`] the vector file
 //!   and [`report`] their count by outcome;
+//! - [`change_limits`], [`change_faults`], [`change_refusals`] and [`changes`] are those of
+//!   the calls that change a run, in [`trays`], with [`rows`] that come and go;
 //! - [`path_questions`] are the stored ones about two paths, with their answers;
 //! - [`rules`] makes sheets of a puzzle, [`kinds`] has puzzles of six kinds and any
 //!   size with their solutions, which [`modular`] finds for some, and [`hard`] the
@@ -21,6 +23,10 @@ pub mod base;
 pub mod build;
 pub mod call;
 pub mod chains;
+pub mod change_faults;
+pub mod change_limits;
+pub mod change_refusals;
+pub mod changes;
 pub mod damage;
 pub mod digs;
 pub mod even;
@@ -41,7 +47,9 @@ pub mod questions;
 pub mod random;
 pub mod record;
 pub mod report;
+pub mod rows;
 pub mod rules;
 pub mod schemas;
 pub mod stream;
+pub mod trays;
 pub mod world;

@@ -1,8 +1,11 @@
 //! The order in which cases are tried: the fixed ones, those that are made for
-//! one refusal each, then as many by chance as are wanted.
+//! one refusal each, then as many by chance as are wanted; and in the same order, apart
+//! from the others, the changes of runs.
 
 use crate::answer::result_length;
 use crate::call::{Call, Case};
+use crate::change_limits::{change_limits, longest_changes};
+use crate::change_refusals;
 use crate::damage::Damage;
 use crate::digs::any_lent_dig;
 use crate::even::{even_mapping, uneven_mapping, Unevenness};
@@ -28,13 +31,13 @@ pub struct Expected {
 const WITH_LIST: [Call; 4] =
     [Call::CheckPushed, Call::CheckRaw, Call::PushedToRaw, Call::RawToPushed];
 
-/// For each call, place and damage a case with that damage; then those for the
-/// numbers of no single sheet.  The query has random numbers of its own, so that the
-/// others' cases do not depend on it.
+/// For each call that changes no run, place and damage a case with that damage; then
+/// those for the numbers of no single sheet.  The query has random numbers of its own, so
+/// that the others' cases do not depend on it.
 pub fn for_each_refusal(random: &mut Random) -> Vec<Expected> {
     let mut of_query = random.clone();
     let mut cases = Vec::new();
-    for call in Call::ALL {
+    for call in not_changes() {
         let random = if call == Call::Query { &mut of_query } else { &mut *random };
         for (place, &kind) in call.sheets().iter().enumerate() {
             for damage in Damage::of(kind) {
@@ -51,10 +54,23 @@ pub fn for_each_refusal(random: &mut Random) -> Vec<Expected> {
     cases
 }
 
-/// The fixed cases, the longest too, and one for each refusal.
+/// The calls that change no run.
+fn not_changes() -> impl Iterator<Item = Call> {
+    Call::ALL.into_iter().filter(|call| !call.is_change())
+}
+
+/// The fixed cases of the calls that change no run, the longest too, and one for each
+/// refusal.
 pub fn fixed_and_refused(random: &mut Random) -> Vec<Case> {
     let refused = for_each_refusal(random).into_iter().map(|expected| expected.case);
     papers().into_iter().chain(limits()).chain(longest()).chain(refused).collect()
+}
+
+/// The same of the changes of runs.
+pub fn fixed_and_refused_changes(random: &mut Random) -> Vec<Case> {
+    let refused = change_refusals::for_each_refusal(random).into_iter();
+    let refused = refused.map(|expected| expected.case);
+    change_limits().into_iter().chain(longest_changes()).chain(refused).collect()
 }
 
 /// A case of a call with a damaged sheet, from the first world that allows it.
@@ -94,7 +110,7 @@ fn for_no_single_sheet(random: &mut Random) -> Vec<Expected> {
         add(15, Case::new("too many rows pulled back", call, sheets).with_tray(600));
     }
     add(15, too_many_families(random));
-    for call in Call::ALL.into_iter().filter(|call| call.has_tray() && *call != Call::Query) {
+    for call in not_changes().filter(|call| call.has_tray() && *call != Call::Query) {
         for _ in 0..3 {
             let (case, needed) = accepted(random, call);
             add(16, case.clone().with_tray(needed - 1));
@@ -167,9 +183,9 @@ fn accepted(random: &mut Random, call: Call) -> (Case, usize) {
     }
 }
 
-/// Cases by chance, without end: for each world every call on its sheets as they
-/// are and on damaged ones, for first paths on two, and for each tenth a puzzle for
-/// Pi.  The query has sheets, and random numbers, of its own.
+/// Cases by chance, without end: for each world every call that changes no run on its
+/// sheets as they are and on damaged ones, for first paths on two, and for each tenth a
+/// puzzle for Pi.  The query has sheets, and random numbers, of its own.
 pub struct Chance {
     random: Random,
     of_query: Random,
@@ -196,7 +212,7 @@ impl Chance {
             let tray = some_tray(random, &puzzle);
             cases.push(puzzle.with_tray(tray));
         }
-        for call in Call::ALL.into_iter().filter(|&call| call != Call::Query) {
+        for call in not_changes().filter(|&call| call != Call::Query) {
             for lent in world.lent_each(random, call) {
                 cases.extend(whole_and_damaged(random, self.worlds, call, &lent));
             }
@@ -283,7 +299,7 @@ fn by_chance(random: &mut Random, call: Call, lent: &[Sheet]) -> (String, Vec<Ve
 }
 
 /// Flips a bit, if there is one.
-fn flip(random: &mut Random, sheet: &mut [u8]) {
+pub(crate) fn flip(random: &mut Random, sheet: &mut [u8]) {
     if !sheet.is_empty() {
         let bit = random.below(8 * sheet.len());
         sheet[bit / 8] ^= 0x80 >> (bit % 8);

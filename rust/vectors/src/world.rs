@@ -26,6 +26,13 @@ pub enum Sheet {
     Path(Path),
     /// A list of partners.
     List(Matching),
+    /// A row for a table.
+    Row {
+        /// The table.
+        table: usize,
+        /// The row.
+        row: Row,
+    },
 }
 
 impl Sheet {
@@ -37,6 +44,7 @@ impl Sheet {
             Sheet::Instance(instance) => instance.to_sheet(),
             Sheet::Path(path) => path.to_sheet(),
             Sheet::List(list) => list.to_sheet(),
+            Sheet::Row { row, .. } => row.to_sheet(),
         }
     }
 }
@@ -180,6 +188,7 @@ impl World {
                     (_, Kind::Instance { .. }) => Sheet::Instance(book.clone()),
                     (_, Kind::List) => Sheet::List(list.clone()),
                     (_, Kind::Path) => unreachable!("paths are lent to the calls with one schema"),
+                    (_, Kind::Row) => unreachable!("changes are lent sheets of their own"),
                 };
                 (0..call.sheets().len()).map(of_kind).collect()
             }

@@ -3,9 +3,12 @@
 
 #![allow(dead_code, unused_imports)]
 
+mod trays;
+
 use reference::paths::all_paths;
 use reference::plain::*;
 use reference::{first_path, path_chain, Refusal};
+pub use trays::*;
 pub use vectors::base::*;
 pub use vectors::build::*;
 use vectors::random::Random;

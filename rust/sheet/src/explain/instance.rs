@@ -19,15 +19,29 @@ pub(super) fn causes(lent: &Lent, over: &LentSchema, number: u8) -> Option<Vec<C
             }]);
         }
     };
-    Some(match number {
-        9 => dangling(lent, schema, &instance),
-        10 => off_scale(lent, schema, &instance),
-        11 => bent_rows(lent, over, schema, &instance),
-        _ => Vec::new(),
-    })
+    let place = |table, row| lent.row_place(&schema.node_name(table), row);
+    Some(causes_in_rows(over, &instance, &place, number))
 }
 
-fn dangling(lent: &Lent, schema: &Schema, instance: &Instance) -> Vec<Cause> {
+/// Where a row of a table stands.
+type Place<'a> = &'a dyn Fn(usize, usize) -> String;
+
+/// Causes in the rows of an instance.
+pub(super) fn causes_in_rows(
+    over: &LentSchema,
+    instance: &Instance,
+    place: Place,
+    number: u8,
+) -> Vec<Cause> {
+    match (number, &over.schema) {
+        (9, Ok(schema)) => dangling(schema, instance, place),
+        (10, Ok(schema)) => off_scale(schema, instance, place),
+        (11, Ok(schema)) => bent_rows(over, schema, instance, place),
+        _ => Vec::new(),
+    }
+}
+
+fn dangling(schema: &Schema, instance: &Instance, place: Place) -> Vec<Cause> {
     let mut causes = Vec::new();
     for (number, link) in schema.links.iter().enumerate() {
         let count = instance.count(link.target);
@@ -36,7 +50,6 @@ fn dangling(lent: &Lent, schema: &Schema, instance: &Instance) -> Vec<Cause> {
             if target < count {
                 continue;
             }
-            let place = lent.row_place(&schema.node_name(link.source), row);
             let has = counted(count, "row");
             let what = format!("{name} {target}, but {target_name} has {has}");
             let mend = match count {
@@ -47,13 +60,13 @@ fn dangling(lent: &Lent, schema: &Schema, instance: &Instance) -> Vec<Cause> {
                     count - 1
                 ),
             };
-            causes.push(Cause::new(place, what).mend(mend));
+            causes.push(Cause::new(place(link.source, row), what).mend(mend));
         }
     }
     causes
 }
 
-fn off_scale(lent: &Lent, schema: &Schema, instance: &Instance) -> Vec<Cause> {
+fn off_scale(schema: &Schema, instance: &Instance, place: Place) -> Vec<Cause> {
     let mut causes = Vec::new();
     for (number, column) in schema.columns.iter().enumerate() {
         let Some(kind) = KINDS.get(column.kind) else { continue };
@@ -61,8 +74,7 @@ fn off_scale(lent: &Lent, schema: &Schema, instance: &Instance) -> Vec<Cause> {
             if kind.range().contains(&value) {
                 continue;
             }
-            let place = lent.row_place(&schema.node_name(column.node), row);
-            causes.push(value_cause(place, &column.name, kind, value));
+            causes.push(value_cause(place(column.node, row), &column.name, kind, value));
         }
     }
     causes
@@ -83,7 +95,7 @@ fn value_cause(place: String, name: &str, kind: &Kind, value: u32) -> Cause {
     Cause::new(place, what).mend(format!("correct {name} to {range}{unit}"))
 }
 
-fn bent_rows(lent: &Lent, over: &LentSchema, schema: &Schema, instance: &Instance) -> Vec<Cause> {
+fn bent_rows(over: &LentSchema, schema: &Schema, instance: &Instance, place: Place) -> Vec<Cause> {
     let mut causes = Vec::new();
     for (number, equation) in schema.equations.iter().enumerate() {
         let stated = over.lent.place(|lines| lines.equations.get(number));
@@ -101,7 +113,7 @@ fn bent_rows(lent: &Lent, over: &LentSchema, schema: &Schema, instance: &Instanc
                 text(&equation.left),
                 text(&equation.right)
             );
-            let place = lent.row_place(&schema.node_name(equation.left.start), row);
+            let place = place(equation.left.start, row);
             let mend = format!(
                 "let both lead to one row of {end}, as equation {} asks ({stated})",
                 schema.equation_text(equation)

@@ -3,6 +3,7 @@
 //! Number and place are the proved call's; the cause is looked for afterwards
 //! in the same sheets, and named by table, row and line.
 
+mod change;
 mod equal;
 mod even;
 mod instance;
@@ -142,6 +143,9 @@ impl Question {
     fn causes_of_all(&self, number: u8) -> Option<Vec<Cause>> {
         match number {
             12 => even::causes(self),
+            _ if matches!(self.call, Call::AddRow | Call::WithdrawRow) => {
+                change::causes(self, number)
+            }
             13 => pi::unpaired(self),
             14 => pi::wide(self),
             15 => overfull::causes(self),
@@ -195,6 +199,7 @@ fn fault_cause(lent: &Lent, fault: &Fault, over: Option<&str>) -> Cause {
         Fault::Count { .. } => return cause,
         Fault::Cut { .. } => "lend the whole sheet".to_string(),
         Fault::FillingBit { .. } => "pack it again".to_string(),
+        Fault::Follows { needed: 0, .. } => "lend an empty sheet".to_string(),
         Fault::Follows { needed, .. } => {
             format!("lend its first {} alone", counted(*needed, "byte"))
         }

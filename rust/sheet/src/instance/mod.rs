@@ -3,10 +3,12 @@
 
 mod csv;
 mod folder;
+mod row;
 mod sheet;
 
 pub(crate) use csv::header;
 pub use folder::{read_folder, TableText};
+pub use row::Row;
 
 use crate::path::Path;
 use crate::schema::Schema;

@@ -1,6 +1,6 @@
 //! Schemas, mappings, instances and matchings at random, with fixed seeds.
 
-use sheet::{all_paths, Column, Equation, Instance, Link, Mapping, Matching, Path, Schema};
+use sheet::{all_paths, Column, Equation, Instance, Link, Mapping, Matching, Path, Row, Schema};
 pub use vectors::random::Random;
 
 /// A name that none of `taken` is, whatever the case of letters.
@@ -169,4 +169,13 @@ pub fn copies(t: &Schema, count: usize) -> (Schema, Mapping) {
         f.columns.extend(0..t.columns.len());
     }
     (s, f)
+}
+
+/// A row's words, in the order of its table's links and columns.
+pub fn row_words(schema: &Schema, table: usize, row: &Row) -> Vec<String> {
+    let links = schema.links_from(table).into_iter().map(|link| &schema.links[link].name);
+    let columns = schema.columns_at(table).into_iter().map(|column| &schema.columns[column].name);
+    let links = links.zip(&row.links).map(|(name, target)| format!("{name}={target}"));
+    let values = columns.zip(&row.values).map(|(name, value)| format!("{name}={value}"));
+    links.chain(values).collect()
 }

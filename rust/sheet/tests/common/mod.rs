@@ -7,6 +7,7 @@ pub mod generate;
 
 pub use vectors::build::hex;
 
+use sheet::Question;
 use std::fs;
 use std::path::{Path, PathBuf};
 use std::process::{Command, Output, Stdio};
@@ -66,6 +67,26 @@ impl Folder {
     /// The names of everything in this folder, sorted.
     pub fn names(&self) -> Vec<String> {
         names_in(&self.0)
+    }
+
+    /// Every file below this folder with its bytes, and every folder, ending in `/`.
+    pub fn files(&self) -> Vec<(String, Vec<u8>)> {
+        let mut files = Vec::new();
+        let mut folders = vec![String::new()];
+        while let Some(folder) = folders.pop() {
+            for name in names_in(&self.join(&folder)) {
+                let name = format!("{folder}{name}");
+                match self.join(&name).is_dir() {
+                    true => {
+                        files.push((format!("{name}/"), Vec::new()));
+                        folders.push(format!("{name}/"));
+                    }
+                    false => files.push((name.clone(), self.read(&name))),
+                }
+            }
+        }
+        files.sort();
+        files
     }
 
     /// Runs the command in this folder.
@@ -205,4 +226,16 @@ pub fn equal_links(name: &str, count: usize) -> String {
 pub fn bare_rows(count: usize) -> String {
     let rows = (0..count).map(|row| format!("{row}\n"));
     format!("row\n{}", rows.collect::<String>())
+}
+
+/// The number of the refusal, whose cause is found and told; 0 if accepted.
+pub fn cause_is_found(question: &Question, seed: u64) -> usize {
+    let Err(refusal) = question.ask() else { return 0 };
+    let explanation = question.explain(refusal);
+    let text = explanation.to_string();
+    assert!(!explanation.causes.is_empty(), "seed {seed}: {text}");
+    assert_eq!(explanation.refusal, refusal);
+    let tag = format!("({}, {})", refusal.number, refusal.word());
+    assert!(text.lines().next().unwrap().ends_with(&tag), "seed {seed}: {text}");
+    usize::from(refusal.number)
 }

@@ -129,17 +129,17 @@ fn dangle(
 }
 
 /// From the values that a kind has one that it has not, if there is such a one.
-type OffScale = fn(&RangeInclusive<u32>) -> Option<u32>;
+pub(super) type OffScale = fn(&RangeInclusive<u32>) -> Option<u32>;
 
-fn one_below(range: &RangeInclusive<u32>) -> Option<u32> {
+pub(super) fn one_below(range: &RangeInclusive<u32>) -> Option<u32> {
     range.start().checked_sub(1)
 }
 
-fn one_above(range: &RangeInclusive<u32>) -> Option<u32> {
+pub(super) fn one_above(range: &RangeInclusive<u32>) -> Option<u32> {
     range.end().checked_add(1)
 }
 
-fn far_above(range: &RangeInclusive<u32>) -> Option<u32> {
+pub(super) fn far_above(range: &RangeInclusive<u32>) -> Option<u32> {
     (!range.contains(&u32::MAX)).then_some(u32::MAX)
 }
 

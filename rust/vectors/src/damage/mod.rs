@@ -5,12 +5,13 @@ mod instance;
 mod list;
 mod mapping;
 mod path;
+mod row;
 mod schema;
 
 use crate::call::{Call, Kind};
 use crate::random::Random;
 use crate::world::Sheet;
-use reference::plain::{Mapping, Matching, Schema};
+use reference::plain::{Instance, Mapping, Matching, Schema};
 
 /// A way to damage a sheet.
 #[derive(Debug, Clone, Copy, PartialEq, Eq, PartialOrd, Ord)]
@@ -37,12 +38,15 @@ pub enum Damage {
     Path(path::PathDamage),
     /// Damage to a list.
     List(list::ListDamage),
+    /// Damage to a row that is added.
+    Row(row::RowDamage),
 }
 
 pub use instance::InstanceDamage;
 pub use list::ListDamage;
 pub use mapping::MappingDamage;
 pub use path::PathDamage;
+pub use row::RowDamage;
 pub use schema::SchemaDamage;
 
 /// The damage that every sheet can suffer.
@@ -64,6 +68,7 @@ impl Damage {
             Kind::Instance { .. } => InstanceDamage::ALL.map(Damage::Instance).to_vec(),
             Kind::Path => PathDamage::ALL.map(Damage::Path).to_vec(),
             Kind::List => ListDamage::ALL.map(Damage::List).to_vec(),
+            Kind::Row => RowDamage::ALL.map(Damage::Row).to_vec(),
         };
         OF_ANY_SHEET.into_iter().chain(own).collect()
     }
@@ -78,6 +83,7 @@ impl Damage {
             Damage::Instance(damage) => damage.number(),
             Damage::Path(_) => 4,
             Damage::List(_) => 17,
+            Damage::Row(damage) => damage.number(),
         }
     }
 
@@ -91,10 +97,7 @@ impl Damage {
         place: usize,
     ) -> Option<Vec<Vec<u8>>> {
         let mut sheets: Vec<Vec<u8>> = lent.iter().map(Sheet::bytes).collect();
-        let schema = |place: usize| match &lent[place - 1] {
-            Sheet::Schema(schema) => schema,
-            _ => unreachable!("a schema stands there"),
-        };
+        let schema = |place: usize| schema_at(lent, place);
         let kinds = call.sheets();
         let damaged = match (self, &lent[place], kinds[place]) {
             (Damage::Schema(damage), Sheet::Schema(schema), _) => damage.done_to(random, schema)?,
@@ -115,6 +118,9 @@ impl Damage {
             }
             (Damage::List(damage), Sheet::List(list), _) => {
                 damage.done_to(random, &list::Sides::of(call, lent)?, list)?
+            }
+            (Damage::Row(damage), Sheet::Row { table, row }, _) => {
+                damage.done_to(random, schema(1), run_of(lent), *table, row)?
             }
             (damage, sheet, _) => {
                 damage.done_to_any(random, sheet.bytes(), filling_bits(lent, place))?
@@ -154,6 +160,22 @@ impl Damage {
     }
 }
 
+/// The schema at a place, from 1.
+fn schema_at(lent: &[Sheet], place: usize) -> &Schema {
+    match &lent[place - 1] {
+        Sheet::Schema(schema) => schema,
+        _ => unreachable!("a schema stands there"),
+    }
+}
+
+/// The run that a change is lent.
+fn run_of(lent: &[Sheet]) -> &Instance {
+    match &lent[3] {
+        Sheet::Instance(run) => run,
+        _ => unreachable!("a run stands there"),
+    }
+}
+
 /// Whether the mappings among the first sheets, of these kinds, are accepted between
 /// the schemas of all: another equation can break the rules of an earlier mapping.
 fn mappings_are_accepted(kinds: &[Kind], sheets: &[Vec<u8>]) -> bool {
@@ -180,6 +202,7 @@ fn filling_bits(lent: &[Sheet], place: usize) -> usize {
         }
         Sheet::Path(path) => 8 + 5 * path.edges.len(),
         Sheet::List(Matching { partners }) => 9 * partners.iter().map(Vec::len).sum::<usize>(),
+        Sheet::Row { row, .. } => 9 * row.links.len() + 32 * row.values.len(),
     };
     bits.next_multiple_of(8) - bits
 }

@@ -40,11 +40,14 @@ slice-aggregate-total c = search needs
 total-requires : tie.Need-total-requires
 total-requires c κs = search needs
 
+mul-decode-tables : tie.Need-mul-decode-tables
+mul-decode-tables c = search needs
+
 decode-tables-requires : tie.Need-decode-tables-requires
 decode-tables-requires c κs =
     let z = c .before .before .before .before .before .before .before .before .before .before .before .before in
     let h : 0 + 10 * z .args .schema .graph .nodes ≤ 8 * length (z .args .s .now) = ltb-false _ _ (sym (c .before .before .before .before .before .before .before .lacks-at .ensures) ∙ c .before .before .before .before .before .before .if1 .left) in
-    (z .pre .0, z .pre .1, omega arith, omega (arith, c .before .before .before .total .ensures))
+    (z .pre .0, z .pre .1, omega arith, omega (arith, z .pre .0 .limits .nodes), omega (arith, c .before .before .before .total .ensures))
 
 same-length : tie.Need-same-length
 same-length c = search needs
@@ -82,6 +85,7 @@ decode-instance-spec =
     read-counts-requires
     slice-aggregate-total
     total-requires
+    mul-decode-tables
     decode-tables-requires
     same-length
     same-length-2

@@ -8,29 +8,29 @@ use Rattle.instance.proofs.range.columns_below.Statement.{statement}
 use Rattle.instance.proofs.range.columns_below.Tie as tie
 
 abbrev Inv-loop : tie.InvT-loop
-Inv-loop n source target counts links e₀ e = Passed (linkTest source target counts links) n (λ k. k) e
+Inv-loop n source target rows counts links e₀ e = Passed (linkTest source target rows counts links) n (λ k. k) e
 
 abbrev μ-loop : tie.MeasureT-loop
-μ-loop n source target counts links e₀ e = n - e
+μ-loop n source target rows counts links e₀ e = n - e
 
 loop-holds : tie.Need-loop-holds Inv-loop μ-loop
 loop-holds c = passed-start _ _ _
 
 rows-of-requires : tie.Need-rows-of-requires Inv-loop μ-loop
 rows-of-requires c κs =
-    let C = c .before .before .before .before .before .before .pre .0 in
+    let C = c .before .before .before .before .before .before .before .pre .0 in
     (omega (arith, C .homes), C .tables (c .before .loop .e) (c .loop-test .taken))
 
 rows-of-requires-2 : tie.Need-rows-of-requires-2 Inv-loop μ-loop
 rows-of-requires-2 c κs =
-    let C = c .before .before .before .before .before .before .before .pre .1 in
+    let C = c .before .before .before .before .before .before .before .before .pre .1 in
     (omega (arith, C .homes), C .tables (c .before .before .loop .e) (c .before .loop-test .taken))
 
 mul-column-below : tie.Need-mul-column-below Inv-loop μ-loop
-mul-column-below c = let g = c .before .before .before .before .before .before .before .before .good in omega arith
+mul-column-below c = let g = c .before .before .before .before .before .before .before .before .before .good in omega arith
 
 column-below-requires : tie.Need-column-below-requires Inv-loop μ-loop
-column-below-requires c κs = omega (arith, c .before .rows-of .ensures, c .before .before .before .before .before .before .before .before .pre .0 .rows (c .before .before .before .loop .e) (c .before .before .loop-test .taken))
+column-below-requires c κs = omega (arith, c .before .rows-of .ensures, c .before .before .before .before .before .before .before .before .before .pre .0 .rows (c .before .before .before .loop .e) (c .before .before .loop-test .taken))
 
 add-e : tie.Need-add-e Inv-loop μ-loop
 add-e c = omega arith

@@ -24,9 +24,12 @@ slice-aggregate-columns-below-2 c = search needs
 slice-aggregate-columns-below-3 : tie.Need-slice-aggregate-columns-below-3
 slice-aggregate-columns-below-3 c = search needs
 
+slice-aggregate-columns-below-4 : tie.Need-slice-aggregate-columns-below-4
+slice-aggregate-columns-below-4 c = search needs
+
 columns-below-requires : tie.Need-columns-below-requires
 columns-below-requires c κs =
-    let z = c .before .before .before .before .before .before .before .before in
+    let z = c .before .before .before .before .before .before .before .before .before in
     let a = z .args in
     let A = z .pre .0 in
     let L = z .pre .1 in
@@ -37,7 +40,7 @@ columns-below-requires c κs =
     )
 
 returns : tie.Need-returns
-returns c = let z = c .before .before .before .before .before .before .before .before .before in c .columns-below .ensures ∙ sym (links-test (z .args .schema) (z .pre .0) (z .args .instance) (z .args .links .now) [])
+returns c = let z = c .before .before .before .before .before .before .before .before .before .before in c .columns-below .ensures ∙ sym (links-test (z .args .schema) (z .pre .0) (z .args .instance) (z .args .links .now) [])
 
 pub links-in-range-spec : {M : Type 1} → statement M
 links-in-range-spec =
@@ -46,5 +49,6 @@ links-in-range-spec =
     slice-aggregate-columns-below
     slice-aggregate-columns-below-2
     slice-aggregate-columns-below-3
+    slice-aggregate-columns-below-4
     columns-below-requires
     returns)

@@ -5,7 +5,7 @@ use Rattle.pi.specs.Tables.{PiReady}
 use Rattle.pi.proofs.Tables.{lists-pi}
 use Rattle.steps.specs.Opened.{openedOf}
 use Rattle.steps.specs.Runs.{runInput, RunSays}
-use Rattle.migration.proofs.Opening.{run-open}
+use Rattle.steps.proofs.Running.{run-open}
 use Rattle.steps.proofs.Opening.{mapped}
 use Rattle.migration.proofs.Joining.{joinable, sheets-stopped, tests-stopped, tests-joined}
 use borrow.Author.Needs.{needs}

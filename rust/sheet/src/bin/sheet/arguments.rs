@@ -10,6 +10,9 @@ pub struct Arguments {
     pub words: Vec<String>,
     /// `-o PATH`: where the result goes.
     pub output: Option<String>,
+    /// `--pushed PATH`: where the pushed tables go, where they are not the only
+    /// result.
+    pub pushed: Option<String>,
     /// `--force`: existing files may be replaced.
     pub force: bool,
     /// `--hex`: a sheet is shown as hexadecimal bytes.
@@ -47,16 +50,16 @@ impl Arguments {
                 "--hex" => arguments.flag("--hex", attached)?,
                 "--unchecked" => arguments.flag("--unchecked", attached)?,
                 "-o" | "--output" => {
-                    let value = value(name, "a file or folder", attached, &mut rest)?;
-                    arguments.output = Some(value);
+                    arguments.output = Some(value(name, PLACE, attached, &mut rest)?);
                     arguments.given.push("--output");
                 }
+                "--pushed" => {
+                    arguments.pushed = Some(value(name, PLACE, attached, &mut rest)?);
+                    arguments.given.push("--pushed");
+                }
                 "--tray" => {
-                    let value = value(name, "a number of bytes", attached, &mut rest)?;
-                    let bytes = value.parse::<u32>().map_err(|_| {
-                        Failure::usage("", format!("--tray {value}; expected a number of bytes"))
-                    })?;
-                    arguments.tray = Some(bytes as usize);
+                    let bytes = value(name, BYTES, attached, &mut rest)?;
+                    arguments.tray = Some(number_of_bytes(&bytes)?);
                     arguments.given.push("--tray");
                 }
                 "--version" => arguments.words.insert(0, "version".to_string()),
@@ -91,6 +94,17 @@ impl Arguments {
 fn text(word: OsString) -> Result<String, Failure> {
     word.into_string()
         .map_err(|word| Failure::usage("", format!("{} is not UTF-8", word.to_string_lossy())))
+}
+
+/// What the options with a value expect.
+const PLACE: &str = "a file or folder";
+const BYTES: &str = "a number of bytes";
+
+fn number_of_bytes(value: &str) -> Result<usize, Failure> {
+    let bytes = value.parse::<u32>();
+    let bytes =
+        bytes.map_err(|_| Failure::usage("", format!("--tray {value}; expected {BYTES}")))?;
+    Ok(bytes as usize)
 }
 
 /// An option's value, attached by `=` or the next word.

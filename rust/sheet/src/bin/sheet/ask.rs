@@ -6,22 +6,33 @@ use crate::input::{is_standard_input, Inputs};
 use sheet::{Answer, Call, Question, Role, Schema};
 
 /// Loads what a call is lent, in the order of its places, and asks the call.
-///
-/// The call is asked after each file too, with nothing for the files to come:
-/// since it judges sheets in the order of their places, a sheet that it sends
-/// back then is the one it sends back in the end, and the files to come need
-/// not be read.
 pub fn ask(
     command: &'static str,
     call: Call,
     words: &[String],
     arguments: &Arguments,
 ) -> Result<(Question, Answer), Failure> {
-    let mut inputs = Inputs::default();
+    let question = judged(command, call, words, arguments, &mut Inputs::default())?;
+    let answer = answer(&question)?;
+    Ok((question, answer))
+}
+
+/// Loads what a call is lent, in the order of its places.
+///
+/// The call is asked after each file, with nothing for the files to come: since
+/// it judges sheets in the order of their places, a sheet that it sends back then
+/// is the one it sends back in the end, and the files to come need not be read.
+pub fn judged(
+    command: &'static str,
+    call: Call,
+    words: &[String],
+    arguments: &Arguments,
+    inputs: &mut Inputs,
+) -> Result<Question, Failure> {
     let mut question = Question::new(call);
     question.tray = arguments.tray;
     for (place, (role, word)) in roles_of(command, call, words)?.into_iter().enumerate() {
-        lend(&mut question, role, word, &mut inputs)?;
+        lend(&mut question, role, word, inputs)?;
         if let Some(error) = question.misread_list() {
             return Err(Failure::Text(vec![error]));
         }
@@ -32,8 +43,7 @@ pub fn ask(
             _ => {}
         }
     }
-    let answer = answer(&question)?;
-    Ok((question, answer))
+    Ok(question)
 }
 
 /// Loads what a call is lent without asking it, but for a schema sheet that

@@ -27,6 +27,8 @@ fn text(command: &str) -> Option<&'static str> {
         "sigma" => SIGMA,
         "pi" => PI,
         "query" => QUERY,
+        "add-row" => ADD_ROW,
+        "withdraw-row" => WITHDRAW_ROW,
         "match" => MATCH,
         "turn" => TURN,
         "first-path" => FIRST_PATH,
@@ -42,13 +44,16 @@ fn text(command: &str) -> Option<&'static str> {
 pub const OVERVIEW: &str = "\
 sheet: inspection run records from text and CSV to the proved calls and back
 
-  sheet pack schema|mapping|instance|matching|path ..  text to a sheet
+  sheet pack schema|mapping|instance|matching|path|row ..
+                                                       text to a sheet
   sheet show schema|mapping|instance|matching|path ..  a sheet to text or tables
   sheet check schema|mapping|instance ..               ask the proved check
   sheet delta S T MAPPING BOOK                         pull a book back to S
   sheet sigma S T MAPPING RUN                          push a run, tables joined
   sheet pi S T MAPPING RUN                             push a run, rows fitted
   sheet query S1 S2 S3 S4 F G H RUN                    project, join, unite
+  sheet add-row S T MAPPING RUN TABLE NAME=VALUE ..    add a row to a run
+  sheet withdraw-row S T MAPPING RUN TABLE ROW         take a row out of a run
   sheet match pushed|raw S T MAPPING RUN BOOK LIST     check a list of partners
   sheet turn pushed-to-raw|raw-to-pushed S T MAPPING RUN BOOK LIST
                                                        turn it to the other side
@@ -79,10 +84,12 @@ sheet pack mapping S T MAPPING
 sheet pack instance SCHEMA INSTANCE
 sheet pack matching SCHEMA LIST
 sheet pack path SCHEMA PATH
+sheet pack row SCHEMA TABLE NAME=VALUE ..
 
 Writes text as a sheet. The proved check is asked first, and nothing is written
-if it refuses. Of a matching only the schema is checked: which list is a
-matching is a question for `sheet match`.
+if it refuses. Of a matching and of a row only the schema is checked: which list
+is a matching is a question for `sheet match`, and which row fits a run one for
+`sheet add-row`.
 
   -o FILE       write the sheet to FILE instead of standard output
   --force       replace FILE if it exists
@@ -180,6 +187,50 @@ that finds several is in several.
 Example: sheet query vendor.schema needed.schema joined.schema digs.schema \\
              needed-to-vendor.mapping needed-to-joined.mapping \\
              joined-to-digs.mapping run -o digs
+";
+
+const ADD_ROW: &str = "\
+sheet add-row S T MAPPING RUN TABLE NAME=VALUE ..
+
+Adds a row at the end of a table of RUN, an instance of S, and pushes the changed
+run to T as sigma does. Each link and each column of the table has its word, in
+any order: joint=1 leads to row 1 of the link's table, station=650 is a value. A
+row sheet, sheet:FILE, may stand for these words.
+
+Tells the new row's number and prints the pushed tables. No file changes unless
+-o or --pushed names it; where both do, both files change or none does.
+
+  -o PATH        write the changed run to a folder of CSV files, or to a sheet if
+                 PATH ends in .sheet; RUN itself is changed by -o RUN --force
+  --pushed PATH  write the pushed tables to PATH instead of printing them
+  --force        replace what exists
+  --tray BYTES   lend the call trays of BYTES (refusal 16 if one is too small);
+                 that of the run is never shorter than the run
+
+Example: sheet add-row vendor.schema operator.schema vendor-to-operator.mapping \\
+             run Dent joint=0 station=650 -o run --pushed pushed --force
+";
+
+const WITHDRAW_ROW: &str = "\
+sheet withdraw-row S T MAPPING RUN TABLE ROW
+
+Takes a row, by its number, out of a table of RUN, an instance of S, and pushes
+the changed run to T as sigma does. No link may lead to the row. Later rows of the
+table move down by one, and the links that lead to them are renumbered.
+
+Tells which rows have moved and which links were renumbered, and prints the pushed
+tables. No file changes unless -o or --pushed names it; where both do, both files
+change or none does.
+
+  -o PATH        write the changed run to a folder of CSV files, or to a sheet if
+                 PATH ends in .sheet; RUN itself is changed by -o RUN --force
+  --pushed PATH  write the pushed tables to PATH instead of printing them
+  --force        replace what exists
+  --tray BYTES   lend the call trays of BYTES (refusal 16 if one is too small);
+                 that of the run is never shorter than the run
+
+Example: sheet withdraw-row vendor.schema operator.schema \\
+             vendor-to-operator.mapping run Dent 0 -o run --pushed pushed --force
 ";
 
 const MATCH: &str = "\

@@ -58,7 +58,7 @@ impl Inputs {
     /// A mapping from text or sheet.
     pub fn mapping(&mut self, word: &str, s: &Schema, t: &Schema) -> Result<Lent, Failure> {
         match Form::of(word) {
-            Form::Sheet(file) => Ok(Lent::from_sheet(shown(file), self.bytes(file)?)),
+            Form::Sheet(file) => self.sheet(file),
             Form::Text(file) => Ok(Lent::mapping(shown(file), &self.text(file)?, s, t)?),
         }
     }
@@ -66,7 +66,7 @@ impl Inputs {
     /// An instance from a folder or a sheet.
     pub fn instance(&mut self, word: &str, schema: &Schema) -> Result<Lent, Failure> {
         match Form::of(word) {
-            Form::Sheet(file) => Ok(Lent::from_sheet(shown(file), self.bytes(file)?)),
+            Form::Sheet(file) => self.sheet(file),
             Form::Text(folder) if Path::new(folder).is_file() => Err(Failure::Trouble(format!(
                 "{folder} is a file; expected a folder with a CSV file for each table, \
                  or a sheet named .sheet or written as sheet:{folder}"
@@ -78,7 +78,7 @@ impl Inputs {
     /// A matching from CSV or sheet, over the schema of its rows' tables.
     pub fn matching(&mut self, word: &str, schema: &Schema) -> Result<Lent, Failure> {
         match Form::of(word) {
-            Form::Sheet(file) => Ok(Lent::from_sheet(shown(file), self.bytes(file)?)),
+            Form::Sheet(file) => self.sheet(file),
             Form::Text(file) => Ok(Lent::matching(shown(file), &self.text(file)?, schema)?),
         }
     }
@@ -86,9 +86,14 @@ impl Inputs {
     /// A path from its own text or, after `sheet:`, from a sheet.
     pub fn path(&mut self, word: &str, schema: &Schema) -> Result<Lent, Failure> {
         match word.strip_prefix("sheet:") {
-            Some(file) => Ok(Lent::from_sheet(shown(file), self.bytes(file)?)),
+            Some(file) => self.sheet(file),
             None => Ok(Lent::path(word, schema)?),
         }
+    }
+
+    /// Any sheet as it is.
+    pub fn sheet(&mut self, file: &str) -> Result<Lent, Failure> {
+        Ok(Lent::from_sheet(shown(file), self.bytes(file)?))
     }
 
     fn bytes(&mut self, file: &str) -> Result<Vec<u8>, Failure> {

@@ -6,10 +6,10 @@ mod arguments;
 mod ask;
 mod commands;
 mod failure;
-mod folder;
 mod help;
 mod input;
 mod output;
+mod staged;
 
 use arguments::Arguments;
 use failure::Failure;

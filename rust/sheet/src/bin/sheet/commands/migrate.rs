@@ -3,7 +3,8 @@
 use crate::arguments::Arguments;
 use crate::ask::{ask, decoded, schema};
 use crate::failure::Failure;
-use crate::output::{self, Target};
+use crate::output::{self, Ready, Target};
+use crate::staged::{place_all, Staged};
 use sheet::{aligned_tables, Answer, Call, Instance, Role, Schema};
 
 /// Pulls a book back.
@@ -48,17 +49,33 @@ pub fn write(
     schema: &Schema,
     sheet: &[u8],
 ) -> Result<(), Failure> {
+    let target = Target::of(arguments.output.as_deref());
+    match ready(command, target, schema, sheet, arguments.force)? {
+        Ready::Print(bytes) => output::print_bytes(&bytes),
+        Ready::Place(staged) => place_all(&[staged], || Ok(())),
+    }
+}
+
+/// An instance in the form in which it goes to its target.
+pub fn ready(
+    command: &'static str,
+    target: Target,
+    schema: &Schema,
+    sheet: &[u8],
+    force: bool,
+) -> Result<Ready, Failure> {
     let instance = || decoded("the instance", Instance::from_sheet(schema, sheet));
-    match Target::of(arguments.output.as_deref()) {
-        Target::Print => output::print(&aligned_tables(&instance()?, schema)),
-        Target::PrintSheet => output::print_bytes(sheet),
-        Target::Sheet(path) => output::write_file(&path, sheet, arguments.force),
+    match target {
+        Target::Print => Ok(Ready::Print(aligned_tables(&instance()?, schema).into_bytes())),
+        Target::PrintSheet => Ok(Ready::Print(sheet.to_vec())),
+        Target::Sheet(path) => Staged::file(&path, sheet, force).map(Ready::Place),
         Target::Text(path) if path.extension().is_some_and(|ending| ending == "csv") => {
             let what = "an instance has several tables; name a folder, or a file ending in .sheet";
             Err(Failure::usage(command, what))
         }
         Target::Text(path) => {
-            output::write_folder(&path, &instance()?.to_folder(schema), arguments.force)
+            let files = instance()?.to_folder(schema);
+            Staged::folder(&path, &files, force).map(Ready::Place)
         }
     }
 }

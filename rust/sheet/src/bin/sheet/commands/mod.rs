@@ -6,6 +6,7 @@ mod first_path;
 mod matching;
 mod migrate;
 mod pack;
+mod rows;
 mod same_path;
 mod show;
 mod version;
@@ -28,7 +29,9 @@ pub struct Command {
 const FILES: &[&str] = &["--output", "--force"];
 const TRAYS: &[&str] = &["--output", "--force", "--tray"];
 
-const COMMANDS: [Command; 14] = [
+const CHANGES: &[&str] = &["--output", "--force", "--tray", "--pushed"];
+
+const COMMANDS: [Command; 16] = [
     Command {
         name: "pack",
         options: &["--output", "--force", "--hex", "--unchecked"],
@@ -40,6 +43,8 @@ const COMMANDS: [Command; 14] = [
     Command { name: "sigma", options: TRAYS, run: migrate::sigma },
     Command { name: "pi", options: TRAYS, run: migrate::pi },
     Command { name: "query", options: TRAYS, run: migrate::query },
+    Command { name: "add-row", options: CHANGES, run: rows::add },
+    Command { name: "withdraw-row", options: CHANGES, run: rows::withdraw },
     Command { name: "match", options: &[], run: matching::check },
     Command { name: "turn", options: TRAYS, run: matching::turn },
     Command { name: "first-path", options: TRAYS, run: first_path::run },
