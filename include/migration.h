@@ -95,7 +95,7 @@ enum {
     MIGRATION_STACK_PI = 524288,
     MIGRATION_STACK_QUERY = 688128,
     MIGRATION_STACK_MATCHINGS = 401408, /* each of the four calls with a list of partners */
-    MIGRATION_STACK_CHANGES = 425984    /* each of the two calls that change a run */
+    MIGRATION_STACK_CHANGES = 258048    /* each of the two calls that change a run */
 };
 
 /* Taking an answer apart; number and place are those of a refusal. */

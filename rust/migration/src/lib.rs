@@ -112,7 +112,7 @@ pub const STACK_QUERY: usize = 672 * 1024;
 pub const STACK_MATCHINGS: usize = 392 * 1024;
 
 /// The stack that each of [`add_row`] and [`withdraw_row`] needs.
-pub const STACK_CHANGES: usize = 416 * 1024;
+pub const STACK_CHANGES: usize = 252 * 1024;
 
 /// The result as bytes of its own: the call fills a tray that holds every
 /// result, which is then cut to the result's length.
