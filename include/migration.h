@@ -78,9 +78,15 @@ enum {
     MIGRATION_STILL_HELD = 19   /* a link of another row leads to the row that is to be withdrawn */
 };
 
-/* A tray of this many bytes holds every instance sheet, of this many every matching sheet, of this many every path sheet, and of this many every
- * chain sheet. */
-enum { MIGRATION_INSTANCE_BYTES = 51220, MIGRATION_MATCHING_BYTES = 576, MIGRATION_PATH_BYTES = 11, MIGRATION_CHAIN_BYTES = 320 };
+/* A tray of this many bytes holds every instance sheet, of this many every matching sheet, of this many every path sheet, of this many every
+ * chain sheet, and of this many every mapping sheet. */
+enum {
+    MIGRATION_INSTANCE_BYTES = 51220,
+    MIGRATION_MATCHING_BYTES = 576,
+    MIGRATION_PATH_BYTES = 11,
+    MIGRATION_CHAIN_BYTES = 320,
+    MIGRATION_MAPPING_BYTES = 332
+};
 
 /* The calls have their working arrays on the stack. A call needs at most so many bytes of it, whatever it is lent, below the frame that makes it;
  * a thread that makes the call needs them besides what its own code needs. */
@@ -94,6 +100,7 @@ enum {
     MIGRATION_STACK_SIGMA = 262144,
     MIGRATION_STACK_PI = 524288,
     MIGRATION_STACK_QUERY = 688128,
+    MIGRATION_STACK_COMPOSE = 40960,
     MIGRATION_STACK_MATCHINGS = 401408, /* each of the four calls with a list of partners */
     MIGRATION_STACK_CHANGES = 258048    /* each of the two calls that change a run */
 };
@@ -156,6 +163,16 @@ uint64_t migration_pi(const uint8_t *s, size_t s_len, const uint8_t *t, size_t t
 uint64_t migration_query(const uint8_t *s1, size_t s1_len, const uint8_t *s2, size_t s2_len, const uint8_t *s3, size_t s3_len,
                          const uint8_t *s4, size_t s4_len, const uint8_t *f, size_t f_len, const uint8_t *g, size_t g_len,
                          const uint8_t *h, size_t h_len, const uint8_t *run, size_t run_len, uint8_t *tray, size_t tray_len);
+
+/* Two hops in one: of a mapping F from S to T and a mapping G from T to U the composed mapping from S to U. Schemas S, T and U are at places 1 to 3,
+ * F at place 4, G at place 5. Each node and each attribute goes to its image's image, each edge to the images of its image's edges, joined in their
+ * order as they are: of equal paths none is put in another's place. The result is a mapping sheet, written to the tray. It is accepted as a mapping
+ * from S to U, and it is even where F and G are. At place 0: 16.
+ * Delta along it gives the same bytes as Delta along G and then Delta along F, wherever all three calls accept. Delta along G alone may be overfull
+ * (15). Three mappings composed give the same bytes, whichever two are composed first; a mapping composed with an identity, on either side, gives its
+ * own bytes. */
+uint64_t migration_compose(const uint8_t *s, size_t s_len, const uint8_t *t, size_t t_len, const uint8_t *u, size_t u_len,
+                           const uint8_t *f, size_t f_len, const uint8_t *g, size_t g_len, uint8_t *tray, size_t tray_len);
 
 /* Rows that come and go, along an even mapping from S to T (places 1 to 3): a run over S (place 4) is changed where it stands, and its pushed sheet
  * is made anew.

@@ -223,7 +223,7 @@ no-steps none e = refl
 no-steps (some c) e = absurd (some-byte c (ap length e))
 
 -- the edges of a path are below as many as there are
-edge-below : (S : theorySchema.Schema) (k n : ℕ) (p : List ℕ) → S .edges ≤ k → 0 < k → IsPath S n p → (i : ℕ) → getD p i 0 < k
+pub edge-below : (S : theorySchema.Schema) (k n : ℕ) (p : List ℕ) → S .edges ≤ k → 0 < k → IsPath S n p → (i : ℕ) → getD p i 0 < k
 edge-below S k n [] l z h i = z
 edge-below S k n (e ∷ p) l z h zero = omega (arith, h .0)
 edge-below S k n (e ∷ p) l z h (suc i) = edge-below S k (S .tgt e) p l z (h .2) i

@@ -4,7 +4,7 @@ use mathlib.Core.Path.{_≡_, refl, sym, ap, _∙_, subst}
 use mathlib.Core.List.{List}
 use mathlib.Core.Logic.{_↔_, Iff·rfl}
 use native.Mathlib.Omega.{arith}
-use lib.ListN.{length, drop}
+use lib.ListN.{length, take, drop}
 use lib.Seq.{take-at}
 use borrow.Author.Tests.{le-leb}
 use Rattle.meaning.specs.Schema.{Schema}
@@ -18,8 +18,8 @@ use Rattle.meaning.specs.Calls.{Outcome, refused, accepted, _>>=_, Migration, M
 use Rattle.meaning.specs.Query.{Query, queryTables}
 use Rattle.meaning.proofs.Readers.{sound-same}
 use Rattle.agreement.specs.Query.{cutToLength, QueryAgrees, chained, SameResult}
-use Rattle.agreement.proofs.Tests.{refused-not-accepted, bind-same, bind-assoc}
-use Rattle.agreement.proofs.Outcomes.{queryResult}
+use Rattle.agreement.proofs.Tests.{refused-not-accepted, accepted-same, bind-same, bind-assoc}
+use Rattle.agreement.proofs.Outcomes.{queryResult, accepted-tray}
 use Rattle.agreement.proofs.Accepted.{bind-accepted, DeltaSound, delta-accepted, SigmaSound, sigmaResult, sigma-accepted, PiSound, piResult, pi-accepted}
 use Rattle.agreement.proofs.Valid.{mapping-valid, instance-valid, valid-lent-again}
 use Rattle.agreement.proofs.Delta.{delta-valid}
@@ -34,6 +34,13 @@ use Rattle.agreement.proofs.Query.{QuerySound, query-accepts, query-agr
 cut-whole : (tray : List ℕ) (o : Outcome (List ℕ)) → ((bytes : List ℕ) → o ≡ accepted bytes → length bytes ≤ length tray) → cutToLength (inTray tray o) ≡ o
 cut-whole tray (refused n p) h = refl
 cut-whole tray (accepted bytes) h = rw (le-leb (length bytes) (length tray) (h bytes refl)) (ap accepted (take-at bytes (drop (length bytes) tray) (length bytes) refl))
+
+-- a result in a tray, cut to its length, is the call's
+pub cut-accepted : (tray : List ℕ) (o : Outcome (List ℕ)) {bytes : List ℕ} → cutToLength (inTray tray o) ≡ accepted bytes → o ≡ accepted bytes
+cut-accepted tray o e =
+    let a = bind-accepted (inTray tray o .answer) _ e in
+    let r = accepted-tray tray o (a .1) in
+    r .result ∙ ap accepted (sym (r .written .front) ∙ ap (λ (n : ℕ). take n (inTray tray o .tray)) (r .size) ∙ accepted-same (a .2))
 
 -- of tables, the sheet is lent to the next call
 abbrev sheet : Migrated → Outcome (List ℕ)

@@ -40,7 +40,7 @@ module _ {S T : Category} {F : Mapping} (v : ValidMapping S T F) (J : Instance) 
     value = λ a h x r. ap (λ (l : List ℕ). getD l x 0) (delta-column (S .schema) F J a h);
   }
 
-  delta-shaped : Shaped (T .schema) J → Shaped (S .schema) (delta (S .schema) F J)
+  pub delta-shaped : Shaped (T .schema) J → Shaped (S .schema) (delta (S .schema) F J)
   delta-shaped shaped = record {
     tables = map-upto-length (λ c. count J (nodeImage F c)) (S .schema .graph .nodes);
     edges = map-upto-length (λ e. map (follow J (edgeImage F e)) (rows J (nodeImage F (source (S .schema .graph) e)))) (length (S .schema .graph .edges));

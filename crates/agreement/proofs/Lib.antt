@@ -1,4 +1,4 @@
--- Meaning agrees with theory, from paths up to queries, demand 3 and changes of a run, and what is read of an input; `promises` gathers what is shown.
+-- Meaning agrees with theory, from paths up to queries, demand 3, changes of a run and composed mappings, and what is read of an input; `promises` gathers what is shown.
 pub mod Paths
 pub mod Loops
 pub mod Steps
@@ -38,4 +38,6 @@ pub mod Turning
 pub mod Demand3
 pub mod Changes
 pub mod GivesBack
+pub mod Composition
+pub mod ComposeCall
 pub mod Framing

@@ -1,5 +1,5 @@
 -- The tests of each call, in the order of document 01: sheets by place, then 12, 13, 14, 15 at place 0, then the matching sheet, last 16; those of the
--- query in that of document 02, C-15, those of the changes in that of C-16; and what results leave in their trays.
+-- query in that of document 02, C-15, those of the changes in that of C-16, those of composing in that of C-17; and what results leave in their trays.
 use Prim.Native.Nat.{ℕ, _≤_}
 use mathlib.Core.Path.{_≡_}
 use mathlib.Core.Bool.{Bool, not, _&&_}
@@ -20,6 +20,7 @@ use Rattle.meaning.specs.Calls.{Outcome, accepted, explanation, Migration, Migr
 use Rattle.meaning.specs.Query.{Query}
 use Rattle.meaning.specs.Rows.{added, isHeld, withdrawn}
 use Rattle.meaning.specs.Changes.{Run, Sheets, sheetsOf, inTrays}
+use Rattle.meaning.specs.Composition.{Composable, composedSheet}
 use Rattle.agreement.specs.Tests.{Refusal, Tests, done, test, then, giving, holds}
 use Rattle.agreement.specs.SheetTests.{placed, schemaNumbers, schemaTests, pathNumbers, pathTests, mappingNumbers, mappingTests, instanceNumbers, instanceTests, matchingNumbers, matchingTests, rowSheetNumbers, rowSheetTests}
 
@@ -156,6 +157,22 @@ withdrawalTests x c r =
 -- both sheets, of the run after the tests of a change
 abbrev pub changeTests : {rs : List Refusal} → (s t f i : List ℕ) → (Run → Tests Instance rs) → Tests Sheets (runRefusals ++ rs)
 changeTests s t f i change = then (runTests s t f i) (λ x. giving (change x) (sheetsOf x))
+
+-- ---- composing (document 02, C-17): "lent S, T, U, F, G, judged in that order"
+
+abbrev pub composableRefusals : List Refusal
+composableRefusals = placed 1 schemaNumbers ++ placed 2 schemaNumbers ++ placed 3 schemaNumbers ++ placed 4 mappingNumbers ++ placed 5 mappingNumbers
+
+abbrev pub composableTests : (s t u f g : List ℕ) → Tests Composable composableRefusals
+composableTests s t u f g =
+    then (schemaTests 1 s) (λ S.
+    then (schemaTests 2 t) (λ T.
+    then (schemaTests 3 u) (λ U.
+    then (mappingTests 4 (listedCategory S) (listedCategory T) f) (λ F.
+    giving (mappingTests 5 (listedCategory T) (listedCategory U) g) (λ G. record { S = S; T = T; U = U; F = F; G = G })))))
+
+abbrev pub composeTests : (s t u f g : List ℕ) → Tests (List ℕ) composableRefusals
+composeTests s t u f g = giving (composableTests s t u f g) composedSheet
 
 -- ---- checkers and turnings
 

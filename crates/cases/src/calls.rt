@@ -1,6 +1,7 @@
 // The calls by their numbers in a record.
 use changes::exports::migration_add_row;
 use changes::exports::migration_withdraw_row;
+use compose::exports::migration_compose;
 use migration::exports::migration_check_instance;
 use migration::exports::migration_check_mapping;
 use migration::exports::migration_check_pushed;
@@ -46,6 +47,9 @@ fn written<'a>(
     if call == 12 {
         return migration_query(s, t, f, i, j, k, l, m, &mut *tray);
     }
+    if call == 15 {
+        return migration_compose(s, t, f, i, j, &mut *tray);
+    }
     if call == 9 {
         return migration_pushed_to_raw(s, t, f, i, j, k, &mut *tray);
     }
@@ -80,6 +84,14 @@ pub(crate) fn answer<'a>(
         return migration_check_raw(s, t, f, i, j, k);
     }
     written(call, s, t, f, i, j, k, l, m, &mut *tray)
+}
+
+// Whether a call changes a run.
+pub(crate) fn is_change(call: u8) -> bool {
+    if call == 13 {
+        return true;
+    }
+    call == 14
 }
 
 // The calls that change a run, in its tray: 13 adds a row, 14 withdraws one.

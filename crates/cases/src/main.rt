@@ -4,6 +4,7 @@ mod calls;
 
 use calls::answer;
 use calls::changed;
+use calls::is_change;
 use text::framing::bytes_of;
 use text::framing::sheet_at;
 ghost use Prim.Native.Nat.{_+_, _≤_, _<_};
@@ -106,7 +107,7 @@ fn put_answer<'a>(
     m: &'a [u8],
     tray: &mut [u8],
 ) {
-    if 12 < call {
+    if is_change(call) {
         make_change(call, s, t, f, i, j, k, l, m, &mut *tray);
         return;
     }

@@ -15,7 +15,7 @@ use Rattle.theory.specs.Numbering.{tabulate}
 use Rattle.theory.proofs.Numbering.{tabulate-length}
 use Rattle.meaning.specs.Lists.{concatMap}
 use Rattle.meaning.specs.Schema.{path}
-use Rattle.meaning.specs.Formats.{fieldsOf, pathSheet, instanceSheet, matchingSheet, chainSheet}
+use Rattle.meaning.specs.Formats.{fieldsOf, edgesFields, pathSheet, instanceSheet, matchingSheet, chainSheet}
 use Rattle.meaning.proofs.Tabulate.{tabulate-more, tabulate-same}
 use Rattle.meaning.proofs.PathLevels.{concatMap-append}
 use Rattle.meaning.proofs.StepNumbers.{stepOf, chain-packed}
@@ -145,22 +145,27 @@ module _ (l : List ℕ) (n : ℕ) where
   pub matching-written : (tray : List ℕ) {m : ℕ} {a b : List ℕ} → m ≡ bytesFor (9 * n) → a ≡ replicate m 0 ++ drop m tray → b ≡ putAll a 0 (fieldsOf 9 (columnOf l 0 n)) → Written (matchingSheet (frontOf n l)) tray m b
   matching-written tray {m} {a} {b} e ea eb = rw front-same (packed (fieldsOf 9 (columnOf l 0 n)) tray b (e ∙ ap bytesFor (sym partners-width)) (eb ∙ rw ea))
 
--- ---- a path's sheet: start and length, then the edges, which stand as a column
-module _ (start n : ℕ) (edges l : List ℕ) (column : (i : ℕ) → i < n → getD l i 0 ≡ getD edges i 0) where
-  abbrev pathFields : List (ℕ × ℕ)
-  pathFields = (4, start) ∷ (4, n) ∷ fieldsOf 5 (columnOf l 0 n)
+-- ---- small numbers, which stand as a column
+pub column-front : (n : ℕ) (l column : List ℕ) → ((i : ℕ) → i < n → getD column i 0 ≡ getD l i 0) → columnOf column 0 n ≡ frontOf n l
+column-front n l column same = sym (front-same column n) ∙ tabulate-same n same
 
-  path-is : pathSheet (path start (frontOf n edges)) ≡ pack pathFields
-  path-is =
-      ap (λ (x : List ℕ). pathSheet (path start x)) (sym (tabulate-same n column) ∙ front-same l n)
-      ∙ ap (λ (k : ℕ). pack ((4, start) ∷ (4, k) ∷ fieldsOf 5 (columnOf l 0 n))) (tabulate-length n (λ r. getD l (0 + r) 0))
+-- ---- edges: their number, then each; and a path's sheet, its start before them
+module _ (n : ℕ) (edges : List ℕ) where
+  pub edges-width : totalWidth (edgesFields (frontOf n edges)) ≡ 4 + 5 * n
+  unfolding totalWidth
+  edges-width = ap (λ (k : ℕ). 4 + k) (fields-width 5 n (λ r. getD edges r 0))
 
-  pub path-written : (tray : List ℕ) {m : ℕ} {a b d : List ℕ} → m ≡ bytesFor (8 + 5 * n) → a ≡ replicate m 0 ++ drop m tray → b ≡ putAll a 0 (fieldsOf 4 (start ∷ n ∷ []))
-      → d ≡ putAll b 8 (fieldsOf 5 (columnOf l 0 n)) → Written (pathSheet (path start (frontOf n edges))) tray m d
+  pub edges-written : (s : List ℕ) (at : ℕ) {a b : List ℕ} → a ≡ putAll s at (fieldsOf 4 (n ∷ [])) → b ≡ putAll a (at + 4) (fieldsOf 5 (frontOf n edges)) → b ≡ putAll s at (edgesFields (frontOf n edges))
+  unfolding putAll
+  edges-written s at ea eb =
+      eb ∙ rw ea (ap (λ (k : ℕ). putAll (put s at 4 k) (at + 4) (fieldsOf 5 (frontOf n edges))) (sym (tabulate-length n (λ r. getD edges r 0))))
+
+  pub path-written : (start : ℕ) (tray : List ℕ) {m : ℕ} {a b d : List ℕ} → m ≡ bytesFor (8 + 5 * n) → a ≡ replicate m 0 ++ drop m tray → b ≡ putAll a 0 (fieldsOf 4 (start ∷ []))
+      → d ≡ putAll b 4 (edgesFields (frontOf n edges)) → Written (pathSheet (path start (frontOf n edges))) tray m d
   unfolding putAll totalWidth
-  path-written tray {m} {a} {b} {d} e ea eb ed =
-      let w : totalWidth pathFields ≡ 8 + 5 * n = let h = fields-width 5 n (λ r. getD l (0 + r) 0) in omega arith in
-      rw path-is (packed pathFields tray d (e ∙ ap bytesFor (sym w)) (ed ∙ rw (eb, ea)))
+  path-written start tray {m} {a} {b} {d} e ea eb ed =
+      let w : totalWidth ((4, start) ∷ edgesFields (frontOf n edges)) ≡ 8 + 5 * n = let h = edges-width in omega arith in
+      packed ((4, start) ∷ edgesFields (frontOf n edges)) tray d (e ∙ ap bytesFor (sym w)) (ed ∙ rw (eb, ea))
 
 -- ---- a chain's sheet: the number of steps, and each step as one number
 module _ (l : List ℕ) (n : ℕ) where

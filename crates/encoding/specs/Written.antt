@@ -17,6 +17,12 @@ pub record Written (bytes tray : List ℕ) (n : ℕ) (out : List ℕ) : Type 0 w
   pub length-is : n ≡ length bytes
   pub says : out ≡ bytes ++ drop (length bytes) tray
 
+-- there is room for n edges, with their number before them, from a position on
+pub record EdgesFit (tray : List ℕ) (at n : ℕ) : Type 0 where
+  pub few : n ≤ 15
+  pub counted : at < 2 ^ 62
+  pub within : at + 4 + 5 * n ≤ 8 * length tray
+
 -- the rows of n columns together
 abbrev pub rowsIn : ℕ → (ℕ → ℕ) → ℕ
 rowsIn n rows = sumOf (tabulate n rows)

@@ -47,26 +47,27 @@ numbers {t} {p} h k = record {
 }
 
 -- edges that join up exist
-joins-in : (G : meaning.Graph) (n : ℕ) (es : List ℕ) → joins G n es ≡ true → (i : ℕ) → i < length es → getD es i 0 < length (G .edges)
+pub joins-in : (G : meaning.Graph) (n : ℕ) (es : List ℕ) → joins G n es ≡ true → (i : ℕ) → i < length es → getD es i 0 < length (G .edges)
 joins-in G n [] j i l = absurd (omega arith)
 joins-in G n (e ∷ es) j zero l = ltb-true e (length (G .edges)) (and-both (ltb e (length (G .edges))) (eqb (source G e) n) (and-both (ltb e (length (G .edges)) && eqb (source G e) n) (joins G (target G e) es) j .0) .0)
 joins-in G n (e ∷ es) j (suc i) l = joins-in G (target G e) es (and-both (ltb e (length (G .edges)) && eqb (source G e) n) (joins G (target G e) es) j .1) i (omega arith)
 
-module _ {s t : Schema} {first rank class : List ℕ} {f : Mapping} (h : Testable s t first rank class f) where
+module _ (s : Schema) (f : Mapping) where
   abbrev G : meaning.Graph
   G = graphOf (s .graph)
 
-  edge-low : {e : ℕ} → e < length (G .edges) → e < s .graph .edges
+  pub edge-low : {e : ℕ} → e < length (G .edges) → e < s .graph .edges
   edge-low l = omega (arith, edges-count (s .graph .edges) (s .graph .source) (s .graph .target))
 
   -- the images of edges that join up are joined
-  images-joined : (n : ℕ) (es : List ℕ) → joins G n es ≡ true → joinedImages (f .edge) es ≡ image (edgeImage (mappingOf s f)) es
+  pub images-joined : (n : ℕ) (es : List ℕ) → joins G n es ≡ true → joinedImages (f .edge) es ≡ image (edgeImage (mappingOf s f)) es
   images-joined n [] j = refl
   images-joined n (e ∷ es) j =
       let a = and-both (ltb e (length (G .edges)) && eqb (source G e) n) (joins G (target G e) es) j in
       let l = ltb-true e (length (G .edges)) (and-both (ltb e (length (G .edges))) (eqb (source G e) n) (a .0) .0) in
       rw (edge-at s f e (edge-low l), images-joined (target G e) es (a .1))
 
+module _ {s t : Schema} {first rank class : List ℕ} {f : Mapping} (h : Testable s t first rank class f) where
   -- how the class of a side's image is found
   pub record Side (p : Path) : Type 0 where
     pub walkable : Walkable first rank (f .node) (f .edge) p
@@ -79,18 +80,18 @@ module _ {s t : Schema} {first rank class : List ℕ} {f : Mapping} (h : Testabl
       let T = schemaOf t in
       let F = mappingOf s f in
       let q = pathImage F (pathOf p) in
-      let a = and-both (ltb (p .start) (s .graph .nodes)) (joins G (p .start) (pathOf p .edges)) (w .path) in
+      let a = and-both (ltb (p .start) (s .graph .nodes)) (joins (graphOf (s .graph)) (p .start) (pathOf p .edges)) (w .path) in
       let l : p .start < s .graph .nodes = ltb-true (p .start) (s .graph .nodes) (a .0) in
       let n = walk-number (T .graph) (h .target .acyclic) (h .numbers .index) q (path-iff T (h .target .well-formed) (q .start) (q .edges) .1 (image-path (formed (h .source)) (formed (h .target)) (fits s T f (h .fits)) (p .start) (pathOf p .edges) (path-iff S (h .source .well-formed) (p .start) (pathOf p .edges) .0 (w .path)))) in
-      let e : walkFrom first rank (getD (f .node) (p .start) 0) (joinedImages (f .edge) (pathOf p .edges)) ≡ walkFrom first rank (q .start) (q .edges) = rw (images-joined (p .start) (pathOf p .edges) (a .1), node-at s f (p .start) l) in
-      let edge-in : (i : ℕ) → i < p .length → getD (p .edges) i 0 < s .graph .edges = λ i b. edge-low (rw (tabulate-getD (p .length) (λ k. getD (p .edges) k 0) 0 i b) at (joins-in G (p .start) (pathOf p .edges) (a .1) i (rw (tabulate-length (p .length) (λ k. getD (p .edges) k 0)) b))) in
+      let e : walkFrom first rank (getD (f .node) (p .start) 0) (joinedImages (f .edge) (pathOf p .edges)) ≡ walkFrom first rank (q .start) (q .edges) = rw (images-joined s f (p .start) (pathOf p .edges) (a .1), node-at s f (p .start) l) in
+      let edge-in : (i : ℕ) → i < p .length → getD (p .edges) i 0 < s .graph .edges = λ i b. edge-low s f (rw (tabulate-getD (p .length) (λ k. getD (p .edges) k 0) 0 i b) at (joins-in (graphOf (s .graph)) (p .start) (pathOf p .edges) (a .1) i (rw (tabulate-length (p .length) (λ k. getD (p .edges) k 0)) b))) in
       record {
         walkable = record {
           short = w .short;
           start = let m = h .source .limits .nodes in omega arith;
           edges = λ i b. let m = h .source .limits .edges in omega (arith, edge-in i b);
           images = λ i b. h .short .each (getD (p .edges) i 0) (edge-in i b);
-          within = rw (images-joined (p .start) (pathOf p .edges) (a .1), ← node-at s f (p .start) l) (n .within);
+          within = rw (images-joined s f (p .start) (pathOf p .edges) (a .1), ← node-at s f (p .start) l) (n .within);
         };
         low = rw e (omega (arith, n .below, h .numbers .index .few));
         is = rw e (h .numbers .classes .each (walkFrom first rank (q .start) (q .edges)) (n .below) ∙ ap (classNumber T) (n .is));

@@ -11,7 +11,7 @@ use Rattle.meaning.specs.Lists.{sumOf}
 use Rattle.meaning.specs.Schema.{Equation, Schema, source, target, attributeAt, hasLoop}
 use Rattle.meaning.specs.Sheet.{sound, onSheet}
 use Rattle.meaning.specs.Formats.{Counts, Mapping, Instance, maxNodes, maxEdges, maxAttributes, maxEquations, maxRows, countsInLimits, readEdges, readPath, readCounts, readEdge, readAttribute, readEquation, readLists, readSchema, readMapping, readTables, readInstance, readMatching, kinds}
-use Rattle.meaning.specs.Views.{Shaped, count, link, value, edgeImage}
+use Rattle.meaning.specs.Views.{Shaped, count, link, value, nodeImage, edgeImage, attributeImage}
 use Rattle.meaning.specs.Category.{Category}
 use Rattle.meaning.specs.Judge.{isWellFormed, hasFewPaths, testSchema, judgeSchema, judgeMapping, judgeInstance, imagesFit, keepsEquations, linksInRange, valuesInRange, obeysEquations}
 use Rattle.meaning.specs.Matching.{isMatching, judgeMatching}
@@ -19,11 +19,11 @@ use Rattle.meaning.proofs.Tabulate.{and-both}
 use Rattle.meaning.proofs.Readers.{Gives, gives-bind, gives-give, gives-as, gives-field, gives-ensure, gives-finish, Every, none, every-in, every-at, gives-times, pointwise-length, pointwise-at, pointwise-every, gives-inTurn, sound-same, given, bind-sound, ensure-sound}
 
 -- ---- paths
-gives-edges : Gives readEdges (λ es. length es ≤ 15)
-gives-edges = gives-bind (gives-field 4) (λ k h. gives-as (gives-times k (gives-field 5)) (λ es e. omega arith))
+gives-edges : Gives readEdges (λ es. (length es ≤ 15) × Every (λ e. e < 32) es)
+gives-edges = gives-bind (gives-field 4) (λ k h. gives-as (gives-times k (gives-field 5)) (λ es e. (let n = e .0 in omega arith, e .1)))
 
 gives-path : Gives readPath (λ p. length (p .edges) ≤ 15)
-gives-path = gives-bind (gives-field 4) (λ n _. gives-bind gives-edges (λ es h. gives-give h))
+gives-path = gives-bind (gives-field 4) (λ n _. gives-bind gives-edges (λ es h. gives-give (h .0)))
 
 -- ---- schemas
 
@@ -135,38 +135,56 @@ pub record MappingFacts (S T : Category) (F : Mapping) : Type 0 where
   pub keeps : keepsEquations S T F ≡ true
   pub short : (e : ℕ) → length (edgeImage F e) ≤ 15
 
-record MappingRead (S : Schema) (F : Mapping) : Type 0 where
-  nodes : length (F .nodes) ≡ S .graph .nodes
-  edges : length (F .edges) ≡ length (S .graph .edges)
-  attributes : length (F .attributes) ≡ length (S .attributes)
-  short : Every (λ es. length es ≤ 15) (F .edges)
+-- each list is as long as S says, and each number fits its field
+pub record FitsSheet (S : Schema) (F : Mapping) : Type 0 where
+  pub nodes : length (F .nodes) ≡ S .graph .nodes
+  pub edges : length (F .edges) ≡ length (S .graph .edges)
+  pub attributes : length (F .attributes) ≡ length (S .attributes)
+  pub node-below : (c : ℕ) → nodeImage F c < 16
+  pub short : (e : ℕ) → length (edgeImage F e) ≤ 15
+  pub edge-below : (e i : ℕ) → getD (edgeImage F e) i 0 < 32
+  pub attribute-below : (a : ℕ) → attributeImage F a < 16
 
-gives-mapping : (S : Schema) → Gives (readMapping S) (MappingRead S)
+gives-mapping : (S : Schema) → Gives (readMapping S) (FitsSheet S)
 gives-mapping S =
     gives-bind (gives-times (S .graph .nodes) (gives-field 4)) (λ ns n.
     gives-bind (gives-times (length (S .graph .edges)) gives-edges) (λ es e.
     gives-bind (gives-times (length (S .attributes)) (gives-field 4)) (λ as′ a.
     gives-bind gives-finish (λ _ _.
-    gives-give (record { nodes = n .0; edges = e .0; attributes = a .0; short = e .1 })))))
+    gives-give (record {
+      nodes = n .0;
+      edges = e .0;
+      attributes = a .0;
+      node-below = every-at (n .1) 0 (omega arith);
+      short = λ k. every-at (e .1) [] (omega arith, none) k .0;
+      edge-below = λ k. every-at (every-at (e .1) [] (omega arith, none) k .1) 0 (omega arith);
+      attribute-below = every-at (a .1) 0 (omega arith);
+    })))))
 
--- of a sheet that reads as a mapping
-pub mapping-sized : (S : Schema) (s : List ℕ) {F : Mapping} → onSheet (readMapping S) s ≡ sound F → length (F .nodes) ≡ S .graph .nodes
-mapping-sized S s e = given (gives-mapping S) s e .nodes
+module _ (S : Schema) (s : List ℕ) where
+  -- of a sheet that reads as a mapping
+  pub mapping-sheet-fits : {F : Mapping} → onSheet (readMapping S) s ≡ sound F → FitsSheet S F
+  mapping-sheet-fits e = given (gives-mapping S) s e
 
-pub mapping-facts : (S T : Category) (s : List ℕ) {F : Mapping} → judgeMapping S T s ≡ sound F → MappingFacts S T F
-mapping-facts S T s e =
-    let r = bind-sound (onSheet (readMapping (S .schema)) s) _ e in
-    let f = ensure-sound (imagesFit (S .schema) (T .schema) (r .0)) 7 _ (r .2) in
-    let k = ensure-sound (keepsEquations S T (r .0)) 8 _ (f .1) in
-    let g = given (gives-mapping (S .schema)) s (r .1) in
-    subst (MappingFacts S T) (sound-same (k .1)) (record {
-      nodes = g .nodes;
-      edges = g .edges;
-      attributes = g .attributes;
-      fits = f .0;
-      keeps = k .0;
-      short = every-at (g .short) [] (omega arith);
-    })
+  pub mapping-sized : {F : Mapping} → onSheet (readMapping S) s ≡ sound F → length (F .nodes) ≡ S .graph .nodes
+  mapping-sized e = mapping-sheet-fits e .nodes
+
+module _ (S T : Category) (s : List ℕ) where
+  mapping-passed : {F : Mapping} → judgeMapping S T s ≡ sound F → (onSheet (readMapping (S .schema)) s ≡ sound F) × (imagesFit (S .schema) (T .schema) F ≡ true) × (keepsEquations S T F ≡ true)
+  mapping-passed e =
+      let r = bind-sound (onSheet (readMapping (S .schema)) s) _ e in
+      let f = ensure-sound (imagesFit (S .schema) (T .schema) (r .0)) 7 _ (r .2) in
+      let k = ensure-sound (keepsEquations S T (r .0)) 8 _ (f .1) in
+      rw (← sound-same (k .1)) (r .1, f .0, k .0)
+
+  pub mapping-read : {F : Mapping} → judgeMapping S T s ≡ sound F → onSheet (readMapping (S .schema)) s ≡ sound F
+  mapping-read e = mapping-passed e .0
+
+  pub mapping-facts : {F : Mapping} → judgeMapping S T s ≡ sound F → MappingFacts S T F
+  mapping-facts e =
+      let t = mapping-passed e in
+      let g = mapping-sheet-fits (S .schema) s (t .0) in
+      record { nodes = g .nodes; edges = g .edges; attributes = g .attributes; fits = t .1; keeps = t .2; short = g .short }
 
 -- ---- instances
 

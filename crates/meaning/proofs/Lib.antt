@@ -5,7 +5,9 @@ pub mod Reading
 pub mod Readers
 pub mod Formats
 pub mod Facts
+pub mod FieldsAt
 pub mod Written
+pub mod MappingSheets
 pub mod Heights
 pub mod PathLevels
 pub mod PathCounts
@@ -21,3 +23,4 @@ pub mod Cases
 pub mod MoreCases
 pub mod QueryCases
 pub mod ChangeCases
+pub mod CompositionCases

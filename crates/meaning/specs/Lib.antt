@@ -17,4 +17,5 @@ pub mod Calls
 pub mod Query
 pub mod Rows
 pub mod Changes
+pub mod Composition
 pub mod Program

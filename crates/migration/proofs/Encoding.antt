@@ -13,12 +13,13 @@ use Rattle.theory.specs.Transposition.{raw, pushed}
 use Rattle.theory.proofs.Matching.{partners-length}
 use Rattle.meaning.specs.Lists.{all}
 use Rattle.meaning.specs.Schema.{Path, Schema}
-use Rattle.meaning.specs.Formats.{Instance, maxInstanceBytes, matchingSheet}
+use Rattle.meaning.specs.Formats.{Instance, maxInstanceBytes, maxMappingBytes, matchingSheet}
 use Rattle.meaning.specs.Views.{schemaOf, mappingOf, instanceOf}
 use Rattle.meaning.specs.Judge.{judgePath, judgeSchema}
 use Rattle.meaning.specs.Calls.{Outcome, refused, accepted, _>>=_, pathQuestion, pathChain, deltaTables, sigmaTables, piTables, sheetOf, Sides, sides, judgePushed, judgeRaw, pushedToRaw, rawToPushed, inTray, rawSheet, pushedSheet}
 use Rattle.meaning.specs.Query.{queryTables}
 use Rattle.meaning.specs.Changes.{Sheets, additionSheets, withdrawalSheets, inTrays}
+use Rattle.meaning.specs.Composition.{compose}
 use Rattle.meaning.proofs.Lists.{all-of}
 use Rattle.meaning.proofs.Tabulate.{and-both}
 use Rattle.meaning.proofs.Facts.{schema-facts}
@@ -42,6 +43,7 @@ use Rattle.agreement.proofs.Agrees.{lendable-within, sheet-within, delta-agrees
 use Rattle.agreement.proofs.Query.{query-agrees}
 use Rattle.agreement.proofs.ChangeTests.{addRow-answer, withdrawRow-answer, accepted-trays}
 use Rattle.agreement.proofs.Changes.{row-added, row-withdrawn}
+use Rattle.agreement.proofs.ComposeCall.{compose-answer, compose-within}
 use Rattle.migration.specs.Answers.{checked}
 use Rattle.migration.specs.Encoding.{Says, SaysLengths, ExportsSay, maxPathBytes, maxMatchingBytes, maxChainBytes, Within, BothWithin, ResultsWithin}
 
@@ -142,6 +144,7 @@ results-within = record {
       lendable-within s4 (a .inputs .S4-accepted) (a .lendable));
   row-added = λ s t f i c row w e. change-within (row-added s t f i c row e .0);
   row-withdrawn = λ s t f i c r w e. change-within (row-withdrawn s t f i c r e .0);
+  compose = compose-within;
   pushed-to-raw = λ s t f i j k. turned-within s t f i j (λ x. judgePushed x k) rawSheet (λ x h l. raw-within h l);
   raw-to-pushed = λ s t f i j k. turned-within s t f i j (λ x. judgeRaw x k) pushedSheet (λ x h l. pushed-within h l);
 }
@@ -216,6 +219,7 @@ exports-say = record {
   query = λ s1 s2 s3 s4 f g h i tray. says-bytes tray (sheetOf (queryTables s1 s2 s3 s4 f g h i)) maxInstanceBytes (query-answer tray s1 s2 s3 s4 f g h i) refl (results-within .query s1 s2 s3 s4 f g h i) (omega arith);
   add-row = λ s t f run n c row pushed. says-sheets run pushed (additionSheets s t f (take n run) c row) (addRow-answer s t f run n c row pushed) refl (results-within .row-added s t f (take n run) c row);
   withdraw-row = λ s t f run n c r pushed. says-sheets run pushed (withdrawalSheets s t f (take n run) c r) (withdrawRow-answer s t f run n c r pushed) refl (results-within .row-withdrawn s t f (take n run) c r);
+  compose = λ s t u f g tray. says-bytes tray (compose s t u f g) maxMappingBytes (compose-answer s t u f g tray) refl (results-within .compose s t u f g) (omega arith);
   check-pushed = λ s t f i j k. says-check (checkPushed-decided s t f i j k) refl;
   check-raw = λ s t f i j k. says-check (checkRaw-decided s t f i j k) refl;
   pushed-to-raw = λ s t f i j k tray. says-bytes tray (pushedToRaw s t f i j k) maxMatchingBytes (pushedToRaw-answer tray s t f i j k) refl (results-within .pushed-to-raw s t f i j k) (omega arith);

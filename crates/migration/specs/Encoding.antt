@@ -6,10 +6,11 @@ use mathlib.Core.Bool.{cond}
 use mathlib.Core.List.{List}
 use lib.ListN.{length}
 use lib.Dec.{ltb}
-use Rattle.meaning.specs.Formats.{maxInstanceBytes}
+use Rattle.meaning.specs.Formats.{maxInstanceBytes, maxMappingBytes}
 use Rattle.meaning.specs.Calls.{Outcome, refused, accepted, _>>=_, checkSchema, checkMapping, checkInstance, pathQuestion, pathChain, deltaTables, sigmaTables, piTables, sheetOf, checkPushed, checkRaw, pushedToRaw, rawToPushed, inTray}
 use Rattle.meaning.specs.Query.{queryTables}
 use Rattle.meaning.specs.Changes.{Sheets, additionSheets, withdrawalSheets, addRow, withdrawRow}
+use Rattle.meaning.specs.Composition as composition
 use Rattle.migration.specs.Answers.{encoded, checked, lengthsNumber}
 
 -- below 2^32 a result; else the number in bits 8 to 15, the place in bits 0 to 7
@@ -40,6 +41,7 @@ pub record ExportsSay : Type 0 where
   pub query : (s1 s2 s3 s4 f g h i tray : List ℕ) → Says (inTray tray (sheetOf (queryTables s1 s2 s3 s4 f g h i)) .answer)
   pub add-row : (s t f run : List ℕ) (n c : ℕ) (row pushed : List ℕ) → SaysLengths (addRow s t f run n c row pushed .answer)
   pub withdraw-row : (s t f run : List ℕ) (n c r : ℕ) (pushed : List ℕ) → SaysLengths (withdrawRow s t f run n c r pushed .answer)
+  pub compose : (s t u f g tray : List ℕ) → Says (inTray tray (composition.compose s t u f g) .answer)
   pub check-pushed : (s t f i j k : List ℕ) → Says (checked (checkPushed s t f i j k))
   pub check-raw : (s t f i j k : List ℕ) → Says (checked (checkRaw s t f i j k))
   pub pushed-to-raw : (s t f i j k tray : List ℕ) → Says (inTray tray (pushedToRaw s t f i j k) .answer)
@@ -76,5 +78,6 @@ pub record ResultsWithin : Type 0 where
   pub query : (s1 s2 s3 s4 f g h i : List ℕ) → Within maxInstanceBytes (sheetOf (queryTables s1 s2 s3 s4 f g h i))
   pub row-added : (s t f i : List ℕ) (c : ℕ) (row : List ℕ) → BothWithin maxInstanceBytes (additionSheets s t f i c row)
   pub row-withdrawn : (s t f i : List ℕ) (c r : ℕ) → BothWithin maxInstanceBytes (withdrawalSheets s t f i c r)
+  pub compose : (s t u f g : List ℕ) → Within maxMappingBytes (composition.compose s t u f g)
   pub pushed-to-raw : (s t f i j k : List ℕ) → Within maxMatchingBytes (pushedToRaw s t f i j k)
   pub raw-to-pushed : (s t f i j k : List ℕ) → Within maxMatchingBytes (rawToPushed s t f i j k)

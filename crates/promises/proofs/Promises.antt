@@ -37,10 +37,12 @@ use Rattle.agreement.proofs.Withdrawals.{withdraws-table, withdraws-one}
 use Rattle.agreement.proofs.Demand3.{demand3, provided-iff, unprovided-refused, case3-provided}
 use Rattle.agreement.proofs.Changes.{run-answers, table-absent, addition-answers, withdrawal-answers, row-added, row-withdrawn}
 use Rattle.agreement.proofs.GivesBack.{gives-back}
+use Rattle.agreement.proofs.Composition.{mapping-one, mapping-within}
+use Rattle.agreement.proofs.ComposeCall.{compose-answer, composed, compose-agrees, compose-delta, compose-associative, identity-accepted, compose-identity-first, compose-identity-last, sigma-isomorphic}
 use Rattle.agreement.proofs.Framing.{push-frames, dig-frames}
 use Rattle.migration.proofs.Demand3.{calls-demand3, calls-refuse, meanings-meet}
 use Rattle.migration.proofs.Encoding.{exports-say, results-within}
-use Rattle.promises.specs.Promises.{Demand-1, Demand-2, Demand-3, C-11, C-12, C-14, C-15, C-16, Program, Header}
+use Rattle.promises.specs.Promises.{Demand-1, Demand-2, Demand-3, C-11, C-12, C-14, C-15, C-16, C-17, Program, Header}
 
 pub demand-1 : Demand-1
 demand-1 = record {
@@ -158,6 +160,21 @@ c-16 = record {
   row-added = row-added;
   row-withdrawn = row-withdrawn;
   gives-back = gives-back;
+}
+
+pub c-17 : C-17
+c-17 = record {
+  compose-decided = compose-answer;
+  composed = composed;
+  compose-agrees = compose-agrees;
+  mapping-one = mapping-one;
+  mapping-within = mapping-within;
+  delta-composite = compose-delta;
+  associative = compose-associative;
+  identity-accepted = identity-accepted;
+  identity-first = compose-identity-first;
+  identity-last = compose-identity-last;
+  sigma-isomorphic = λ s t u f g i k e. sigma-isomorphic s t u f g i k e;
 }
 
 pub program : Program

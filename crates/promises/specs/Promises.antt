@@ -1,8 +1,8 @@
 -- The promises of the three demands, of the requests of document 02, of the programs and of the C header, by demand and sentence; proofs/Promises.antt
 -- proves each under its name.
--- A call is said by its meaning, a function of lists of numbers (`meaning` specs/Calls.antt, Query.antt, Changes.antt). That the code answers as the meaning does is each public
+-- A call is said by its meaning, a function of lists of numbers (`meaning` specs/Calls.antt, Query.antt, Changes.antt, Composition.antt). That the code answers as the meaning does is each public
 -- call's contract, one equation with no `requires` (`migration` src/checks.rt, first.rt, explain.rt, migrate.rt, joins.rt, turnings.rt, printing.rt and exports.rt;
--- `query` src/answer.rt, printing.rt and exports.rt; `changes` src/calls.rt and exports.rt). The other terms stand in the specs/ of `theory`
+-- `query` src/answer.rt, printing.rt and exports.rt; `changes` src/calls.rt and exports.rt; `compose` src/call.rt and exports.rt). The other terms stand in the specs/ of `theory`
 -- (source document 000), `meaning` (documents 01 and 02), `agreement` and `migration`.
 -- By definition alone, in `meaning` specs/: the fields of sheets, refusals 1, 2 and 3, the text of push and dig. The runs to check against: `meaning` proofs/Cases.antt.
 use Prim.Native.Nat.{ℕ, _<_, _≤_}
@@ -20,13 +20,15 @@ use Rattle.theory.specs.Mapping.{IsMapping, Even, Bijective}
 use Rattle.theory.specs.Sigma.{IsSigma}
 use Rattle.theory.specs.Pi.{IsComponent, IsPi}
 use Rattle.theory.specs.Query.{IsQuery}
+use Rattle.theory.specs.Composition as theoryComposition
+use Rattle.theory.specs.Composition.{SameImages, SigmaIsomorphic}
 use Rattle.theory.specs.Matching.{IsMatching}
 use Rattle.meaning.specs.Lists.{sumOf}
 use Rattle.meaning.specs.Schema.{Path, path, Schema, isPath, allPaths, hasLoop, height}
 use Rattle.meaning.specs.PathChain.{Step}
 use Rattle.meaning.specs.Category.{Category, equal, listedCategory}
 use Rattle.meaning.specs.Sheet.{faulty, sound, onSheet}
-use Rattle.meaning.specs.Formats.{Mapping, Instance, readMapping, readInstance, maxPaths, maxRows, maxInstanceBytes, kinds, instanceSheet, matchingSheet}
+use Rattle.meaning.specs.Formats.{Mapping, Instance, readMapping, readInstance, maxPaths, maxRows, maxInstanceBytes, maxMappingBytes, kinds, mappingSheet, instanceSheet, matchingSheet}
 use Rattle.meaning.specs.Views.{Shaped, schemaOf, nodeImage, edgeImage, mappingOf, count, instanceOf}
 use Rattle.meaning.specs.Judge.{isWellFormed, hasFewPaths, imagesFit, keepsEquations, linksInRange, valuesInRange, obeysEquations, judgePath, judgeSchema, judgeMapping, judgeInstance}
 use Rattle.meaning.specs.Delta.{delta}
@@ -38,16 +40,18 @@ use Rattle.meaning.specs.Calls.{Outcome, refused, accepted, _>>=_, ensureFits, 
 use Rattle.meaning.specs.Query.{Query, migrateQuery, queryTables}
 use Rattle.meaning.specs.Rows.{readRow, added, withdrawn}
 use Rattle.meaning.specs.Changes.{Run, judgeRun, addition, Sheets, additionSheets, withdrawalSheets, inTrays, addRow, withdrawRow}
+use Rattle.meaning.specs.Composition.{identity, Composable, compose}
 use Rattle.meaning.specs.Program.{frames, push, dig}
 use Rattle.agreement.specs.Paths.{WellFormed, SameStarts, Loop, IsHeight, EqualPaths, ListsPaths, Crowded}
 use Rattle.agreement.specs.Categories.{IsCategory}
 use Rattle.agreement.specs.PathChains.{StepsAgree, ChainsAgree, IsFirstChain, ChainAnswers}
 use Rattle.agreement.specs.Tests.{Refusal, Tests, FailsAt, Pass, Decides}
-use Rattle.agreement.specs.CallTests.{checkSchemaTests, checkMappingTests, checkInstanceTests, pathQuestionTests, pathChainTests, deltaTests, sigmaTests, piTests, queryTests, pushedTests, rawTests, additionTests, withdrawalTests, changeTests, trayTests, sheetTests, traysTests, Result, Results}
+use Rattle.agreement.specs.CallTests.{checkSchemaTests, checkMappingTests, checkInstanceTests, pathQuestionTests, pathChainTests, deltaTests, sigmaTests, piTests, queryTests, pushedTests, rawTests, additionTests, withdrawalTests, changeTests, composeTests, trayTests, sheetTests, traysTests, Result, Results}
 use Rattle.agreement.specs.Valid.{ValidMapping, ValidInstance, InRange, ImagesFit, KeepsEquations, LinksIn, ValuesIn, OffScale, ObeysEquations}
 use Rattle.agreement.specs.Agrees.{SchemaAgrees, PathAnswer, PathAnswers, Inputs, DeltaAgrees, DeltaAnswers, SigmaAgrees, SigmaAnswers, PiAgrees, PiAnswers}
-use Rattle.agreement.specs.Query.{QueryInputs, QueryAgrees, QueryAnswers, chained, SameResult}
+use Rattle.agreement.specs.Query.{QueryInputs, QueryAgrees, QueryAnswers, cutToLength, chained, SameResult}
 use Rattle.agreement.specs.Changes.{RunAnswers, IsRow, rowSheet, Adds, RowTestsDecide, AdditionAnswers, Held, Withdraws, WithdrawalAnswers, ChangeAgrees, GivesBack}
+use Rattle.agreement.specs.Composition.{mappingF, mappingG, ComposeInputs, ComposeAgrees}
 use Rattle.agreement.specs.Demand3.{Accepts, meaningAnswers, Provided, Clauses, AllRefuse}
 use Rattle.migration.specs.Demand3.{Calls, MeetsContracts, answers, meaningCalls}
 use Rattle.migration.specs.Encoding.{ExportsSay, ResultsWithin}
@@ -275,6 +279,41 @@ pub record C-16 : Type 0 where
   -- withdrawing the row just added gives the first run's sheet and length back, byte for byte
   pub gives-back : (s t f run : List ℕ) (n c : ℕ) (row pushed : List ℕ) → Bytes run → {a b : ℕ} → addRow s t f run n c row pushed .answer ≡ accepted (a, b)
       → GivesBack s t f run n c row pushed a
+
+-- ---- Document 02, C-17: two hops or one
+
+pub record C-17 : Type 0 where
+  -- "The composing call is lent S, T, U, F, G, judged in that order": places 1 to 5, last 16; what a tray is left as is Demand-1's
+  pub compose-decided : (s t u f g tray : List ℕ) → Decides (trayTests tray (composeTests s t u f g)) (inTray tray (compose s t u f g) .answer)
+  -- accepted sheets are composed: no other refusal
+  pub composed : (s t u f g : List ℕ) {x : Composable} → ComposeInputs s t u f g x → (h : List ℕ) × (compose s t u f g ≡ accepted h)
+  -- "For mappings F from S to T and G from T to U, provide the composed mapping, each edge going to its image path's images joined": an accepted mapping
+  -- from S to U, even where F and G are; Delta along it is Delta along G and then F
+  pub compose-agrees : (s t u f g : List ℕ) {h : List ℕ} → compose s t u f g ≡ accepted h → ComposeAgrees s t u f g h
+  -- no other sheet has these images; and the header's bytes hold every mapping sheet
+  pub mapping-one : {S T : Schema} {F G : Mapping} (f g : List ℕ) → Bytes f → Bytes g → judgeMapping (listedCategory S) (listedCategory T) f ≡ sound F
+      → judgeMapping (listedCategory S) (listedCategory T) g ≡ sound G → SameImages (mappingOf S T F) (mappingOf S T G) → f ≡ g
+  pub mapping-within : (s t f : List ℕ) {S T : Schema} {F : Mapping} → Bytes f → judgeSchema s ≡ sound S → judgeSchema t ≡ sound T
+      → judgeMapping (listedCategory S) (listedCategory T) f ≡ sound F → length f ≤ maxMappingBytes
+  -- "Where all three Delta results are accepted, pulling a book back along the composition and pulling it back along G and then F give the same sheet bytes":
+  -- where composing and Delta along G are accepted, with results cut to their length, Delta along the first's result and Delta along F of the second's give the
+  -- same answer and leave the same tray
+  pub delta-composite : (s t u f g j : List ℕ) {h d : List ℕ} (first second tray : List ℕ) → cutToLength (inTray first (compose s t u f g)) ≡ accepted h
+      → cutToLength (inTray second (sheetOf (deltaTables t u g j))) ≡ accepted d → inTray tray (sheetOf (deltaTables s u h j)) ≡ inTray tray (sheetOf (deltaTables s t f d))
+  -- three hops in either grouping, byte for byte
+  pub associative : (s t u v f g k : List ℕ) {h l : List ℕ} → compose s t u f g ≡ accepted h → compose t u v g k ≡ accepted l → compose s u v h k ≡ compose s t v f l
+  -- the identity mapping is accepted, and composing with it on either side gives a mapping sheet back, byte for byte
+  pub identity-accepted : (s : List ℕ) {S : Schema} → judgeSchema s ≡ sound S → (judgeMapping (listedCategory S) (listedCategory S) (mappingSheet (identity S)) ≡ sound (identity S))
+      × SameImages (theoryComposition.identity (schemaOf S)) (mappingOf S S (identity S))
+  pub identity-first : (s t f : List ℕ) {S T : Schema} {F : Mapping} → Bytes f → judgeSchema s ≡ sound S → judgeSchema t ≡ sound T
+      → judgeMapping (listedCategory S) (listedCategory T) f ≡ sound F → compose s s t (mappingSheet (identity S)) f ≡ accepted f
+  pub identity-last : (s t f : List ℕ) {S T : Schema} {F : Mapping} → Bytes f → judgeSchema s ≡ sound S → judgeSchema t ≡ sound T
+      → judgeMapping (listedCategory S) (listedCategory T) f ≡ sound F → compose s t t f (mappingSheet (identity T)) ≡ accepted f
+  -- beyond the request: where Sigma along F and then G is accepted, so is Sigma along the composition, and the two are isomorphic: they have the same rows, in
+  -- another order, and those that come from one row of the run correspond
+  pub sigma-isomorphic : (s t u f g i : List ℕ) {x : Composable} {I : Instance} {h : List ℕ} {P R : Migrated} → ComposeInputs s t u f g x → judgeInstance (x .S) i ≡ sound I
+      → compose s t u f g ≡ accepted h → sigmaTables s t f i ≡ accepted P → sigmaTables t u g (instanceSheet (P .tables)) ≡ accepted R
+      → (Q : Migrated) × (sigmaTables s u h i ≡ accepted Q) × SigmaIsomorphic (mappingF x) (mappingG x) (instanceOf I) (instanceOf (P .tables)) (instanceOf (Q .tables)) (instanceOf (R .tables))
 
 -- ---- The programs push and dig
 

@@ -42,9 +42,9 @@ pub(crate) fn open(
     let second = open_schema(s2);
     let third = open_schema(s3);
     let fourth = open_schema(s4);
-    let along_f = open_mapping(second, first, f);
-    let along_g = open_mapping(second, third, g);
-    let along_h = open_mapping(third, fourth, h);
+    let along_f = open_mapping(second.schema, first, f);
+    let along_g = open_mapping(second.schema, third, g);
+    let along_h = open_mapping(third.schema, fourth, h);
     let three = Refusal::first(first.schema.fault, second.schema.fault, third.schema.fault);
     let refusal = three
         .or(fourth.schema.fault, 4)

@@ -14,6 +14,7 @@ ghost use Rattle.meaning.specs.Judge.{judgeSchema, judgeMapping};
 ghost use Rattle.meaning.specs.Evenness.{even};
 ghost use Rattle.meaning.specs.Calls.{migration};
 ghost use Rattle.schema.specs.Decoded.{categoryOf};
+ghost use Rattle.schema.specs.Judged.{Sound};
 ghost use Rattle.mapping.specs.Decoded.{mappingOf};
 ghost use Rattle.mapping.specs.Judged.{Says};
 ghost use Rattle.steps.specs.Opened.{IsListed, SchemaSays, openedBetween, haveFewColumns, Opens, Ready};
@@ -35,14 +36,14 @@ pub fn open_schema(s: &[u8]) -> Category
     }
 }
 
-// The sheet of a mapping between two schemas, judged.
-pub fn open_mapping(source: Category, target: Category, f: &[u8]) -> Mapping
-    requires { ⌜ IsListed source × IsListed target ⌝ }
-    ensures { λ r. ⌜ Says (source .schema) (target .schema) r (judgeMapping (categoryOf (source .schema)) (categoryOf (target .schema)) (now (f .entry))) ⌝ }
+// The sheet of a mapping between two schemas, judged; of the first no path is asked for.
+pub fn open_mapping(source: Schema, target: Category, f: &[u8]) -> Mapping
+    requires { ⌜ Sound source × IsListed target ⌝ }
+    ensures { λ r. ⌜ Says source (target .schema) r (judgeMapping (categoryOf source) (categoryOf (target .schema)) (now (f .entry))) ⌝ }
 {
     let paths = target.paths;
     judge_mapping(
-        source.schema,
+        source,
         target.schema,
         &paths.first,
         &paths.rank,

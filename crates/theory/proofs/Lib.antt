@@ -5,6 +5,8 @@ pub mod Order
 pub mod Instance
 pub mod Mapping
 pub mod Sigma
+pub mod Composition
+pub mod SigmaComposite
 pub mod Family
 pub mod Pi
 pub mod Query

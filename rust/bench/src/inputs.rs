@@ -6,6 +6,7 @@ use reference::plain::*;
 use vectors::build::*;
 use vectors::call::{Call, Case};
 use vectors::chains::{long_way, longer_way};
+use vectors::compositions::longest_composable;
 use vectors::full::{base, full, grown};
 use vectors::limits::{full_schema, longest};
 use vectors::puzzles::complete_graph;
@@ -37,17 +38,30 @@ fn joined(rows: usize) -> Case {
 }
 
 /// The longest sheets, the schemas that cost most to refuse or to accept, with their last
-/// path, and the longest chains.
+/// path, the longest chains and the longest composed mapping.
 fn worst() -> Vec<Case> {
     let wide = longest().into_iter().find(|case| case.name == "the longest instance");
     let wide = Case { name: "worst.longest_instance".into(), ..wide.expect("the longest") };
+    let mut cases = vec![wide];
+    cases.extend(accepted_schemas());
+    cases.extend(refused_schemas());
+    cases.extend([
+        pairs(),
+        long_way().chain("worst.chain_220"),
+        longer_way().chain("worst.chain_222"),
+        longest_composable().case("worst.longest_mapping"),
+        Case { name: "worst.no_colouring".into(), ..complete_graph(5, 4, 4) },
+        Case { name: "worst.many_colourings".into(), ..complete_graph(4, 4, 6) },
+    ]);
+    cases
+}
+
+/// The schemas that cost most to accept, with their last path.
+fn accepted_schemas() -> [Case; 4] {
     let ask = |name: &str, schema: Schema| {
         let last = all_paths(&schema).pop().expect("a path");
         let sheets = vec![schema.to_sheet(), last.to_sheet()];
         Case::new(format!("worst.{name}"), Call::FirstPath, sheets).with_tray(MOST_PATH_BYTES)
-    };
-    let check = |name: &str, schema: Schema| {
-        Case::new(format!("worst.{name}"), Call::CheckSchema, vec![schema.to_sheet()])
     };
     let chain = |rule: &dyn Fn(usize) -> Equation| {
         let mut schema = doubled_chain(7);
@@ -56,28 +70,34 @@ fn worst() -> Vec<Case> {
         schema
     };
     let way = |turns: usize| (0..6).map(|n| 2 * n + (turns >> n & 1)).collect::<Vec<_>>();
-    let mut closed = doubled_chain(16);
-    closed.edges.push(Edge { source: 15, target: 0 });
-    let both = [[(0, 1); 16], [(1, 0); 16]].concat();
-    let pairs = {
-        let (s, t) = (graph(2, &[]), graph(3, &[(0, 1), (0, 2)]));
-        let (f, run) = (mapping(&[1, 2], &[]), instance(&[20, 21], &[]));
-        vec![s.to_sheet(), t.to_sheet(), f.to_sheet(), run.to_sheet()]
-    };
-    vec![
-        wide,
+    [
         ask("all_limits", full_schema()),
         ask("edges_for_twins", chain(&|n| equation(n % 6, &[2 * (n % 6)], &[2 * (n % 6) + 1]))),
         ask("trivial_paths", chain(&|_| equation(3, &[], &[]))),
         ask("longest_paths", chain(&|n| equation(0, &way(n), &way(63 - n)))),
+    ]
+}
+
+/// The schemas that cost most to refuse.
+fn refused_schemas() -> [Case; 4] {
+    let check = |name: &str, schema: Schema| {
+        Case::new(format!("worst.{name}"), Call::CheckSchema, vec![schema.to_sheet()])
+    };
+    let mut closed = doubled_chain(16);
+    closed.edges.push(Edge { source: 15, target: 0 });
+    let both = [[(0, 1); 16], [(1, 0); 16]].concat();
+    [
         check("doubled_chain", doubled_chain(16)),
         check("closed_chain", closed),
         check("loops_at_one_node", graph(1, &[(0, 0); 32])),
         check("two_nodes_both_ways", graph(2, &both)),
-        Case::new("worst.pairs", Call::Pi, pairs).with_tray(MOST_INSTANCE_BYTES),
-        long_way().chain("worst.chain_220"),
-        longer_way().chain("worst.chain_222"),
-        Case { name: "worst.no_colouring".into(), ..complete_graph(5, 4, 4) },
-        Case { name: "worst.many_colourings".into(), ..complete_graph(4, 4, 6) },
     ]
+}
+
+/// Pi of 420 pairs of rows.
+fn pairs() -> Case {
+    let (s, t) = (graph(2, &[]), graph(3, &[(0, 1), (0, 2)]));
+    let (f, run) = (mapping(&[1, 2], &[]), instance(&[20, 21], &[]));
+    let sheets = vec![s.to_sheet(), t.to_sheet(), f.to_sheet(), run.to_sheet()];
+    Case::new("worst.pairs", Call::Pi, sheets).with_tray(MOST_INSTANCE_BYTES)
 }

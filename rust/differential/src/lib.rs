@@ -4,6 +4,7 @@
 #![forbid(unsafe_code)]
 #![warn(missing_docs)]
 
+pub mod composition_laws;
 pub mod limit;
 pub mod pipe;
 pub mod program;
@@ -243,6 +244,7 @@ pub fn call(call: Call, sheets: &[Vec<u8>], tray: &mut [u8]) -> Result<usize, Re
         (Call::Query, [s1, s2, s3, s4, f, g, h, run]) => {
             query_into(s1, s2, s3, s4, f, g, h, run, tray)
         }
+        (Call::Compose, [s, t, u, f, g]) => compose_into(s, t, u, f, g, tray),
         _ => unreachable!("a call lent its sheets"),
     }
 }

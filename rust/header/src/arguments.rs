@@ -38,6 +38,7 @@ fn sheets(call: Call) -> &'static [&'static str] {
         Call::Query => &["s1", "s2", "s3", "s4", "f", "g", "h", "run"],
         Call::AddRow => &["s", "t", "f", "run", "row"],
         Call::WithdrawRow => &["s", "t", "f", "run"],
+        Call::Compose => &["s", "t", "u", "f", "g"],
     }
 }
 

@@ -33,15 +33,18 @@ pub const PATH_BYTES: &str = "MIGRATION_PATH_BYTES";
 /// The most bytes of a chain sheet.
 pub const CHAIN_BYTES: &str = "MIGRATION_CHAIN_BYTES";
 
+/// The most bytes of a mapping sheet.
+pub const MAPPING_BYTES: &str = "MIGRATION_MAPPING_BYTES";
+
 /// Names of the header and the wrapper's numbers of them.
 macro_rules! stacks {
     ($($name:ident)*) => { [$((concat!("MIGRATION_", stringify!($name)), migration::$name)),*] };
 }
 
 /// The bytes of stack that the calls need, which are tried where the wrapper is.
-pub const STACKS: [(&str, usize); 11] = stacks! {
+pub const STACKS: [(&str, usize); 12] = stacks! {
     STACK_CHECK_SCHEMA STACK_CHECK_MAPPING STACK_CHECK_INSTANCE STACK_FIRST_PATH STACK_PATH_CHAIN
-    STACK_DELTA STACK_SIGMA STACK_PI STACK_QUERY STACK_MATCHINGS STACK_CHANGES
+    STACK_DELTA STACK_SIGMA STACK_PI STACK_QUERY STACK_COMPOSE STACK_MATCHINGS STACK_CHANGES
 };
 
 /// The constants that are compared with the wrapper's numbers, since no call tells

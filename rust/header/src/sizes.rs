@@ -1,18 +1,19 @@
-//! Trials of the header's four sizes: sheets of just so many bytes, and trays.
+//! Trials of the header's five sizes: sheets of just so many bytes, and trays.
 
 use crate::arguments::{RUN, TRAY};
-use crate::constants::{CHAIN_BYTES, INSTANCE_BYTES, MATCHING_BYTES, PATH_BYTES};
+use crate::constants::{CHAIN_BYTES, INSTANCE_BYTES, MAPPING_BYTES, MATCHING_BYTES, PATH_BYTES};
 use crate::trials::Trial;
 use reference::plain::{Attribute, Instance, Row, Schema};
 use vectors::build::{graph, identity, instance, list, mapping, path};
 use vectors::call::{Call, Case};
 use vectors::chains::longer_way;
+use vectors::compositions::longest_composable;
 use vectors::trays::{Change, Trays};
 
-/// Trials of the four sizes.
+/// Trials of the five sizes.
 pub fn longest() -> Vec<Trial> {
     let instances = [longest_instances(), longest_queries(), longest_changes()].concat();
-    [instances, longest_lists(), longest_paths(), chains()].concat()
+    [instances, longest_lists(), longest_paths(), chains(), longest_mappings()].concat()
 }
 
 /// The schema whose instances are the longest: 16 nodes, 32 edges and 16
@@ -163,6 +164,26 @@ fn chains() -> Vec<Trial> {
         Trial::new(Case::new(name, Call::PathChain, other).with_tray(tray))
     });
     [vec![whole], around.to_vec(), none.to_vec()].concat()
+}
+
+/// The longest mapping sheet, composed in a tray that holds every mapping, and in a tray of
+/// a byte less; and checked.
+fn longest_mappings() -> Vec<Trial> {
+    let two = longest_composable();
+    let composed = |name: &str, less: usize| {
+        let case = two.case(name).with_tray(Case::MOST_MAPPING - less);
+        Trial::new(case).sized(TRAY, MAPPING_BYTES, -(less as i64))
+    };
+    let whole = composed("the longest mapping", 0);
+    let length = whole.outcome.answer.expect("accepted sheets");
+    let ends = [&two.schemas[0], &two.schemas[2]].map(|schema| schema.to_sheet());
+    let checked = around(&whole.outcome.tray[..length]).map(|(what, more, sheet)| {
+        let name = format!("the longest mapping, {what}");
+        let case = Case::new(name, Call::CheckMapping, [&ends[..], &[sheet]].concat());
+        Trial::new(case).sized(3, MAPPING_BYTES, more)
+    });
+    let short = composed("the longest mapping, a tray of a byte less", 1);
+    [&[whole, short][..], &checked].concat()
 }
 
 /// A call with a list for a run of 512 rows.

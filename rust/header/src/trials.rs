@@ -8,6 +8,8 @@ use vectors::answer::{changed_lengths, reference_outcome, result_length, Outcome
 use vectors::call::Case;
 use vectors::change_limits::change_limits;
 use vectors::change_refusals;
+use vectors::composition_refusals;
+use vectors::compositions::compositions;
 use vectors::limits::limits;
 use vectors::papers::papers;
 use vectors::random::Random;
@@ -93,8 +95,9 @@ const MOST_RECORD: usize = 1000;
 fn for_each_end() -> Vec<Trial> {
     let refused = for_each_refusal(&mut Random::seeded(1)).into_iter();
     let refused = refused.chain(change_refusals::for_each_refusal(&mut Random::seeded(1)));
+    let refused = refused.chain(composition_refusals::for_each_refusal(&mut Random::seeded(1)));
     let refused = refused.map(|expected| expected.case);
-    let fixed = papers().into_iter().chain(limits()).chain(change_limits());
+    let fixed = papers().into_iter().chain(limits()).chain(change_limits()).chain(compositions());
     let cases = fixed.chain(refused);
     let short = cases.filter(|case| record(case).len() <= MOST_RECORD);
     let mut met = BTreeSet::new();

@@ -43,7 +43,7 @@ fn refused(text: &str) -> String {
 fn a_wrong_number_is_found() {
     let text = header_text();
     let wrong = other_numbers(&text, &read(&text));
-    assert_eq!(wrong.len(), 2 * 34);
+    assert_eq!(wrong.len(), 2 * 36);
     for (place, change) in wrong.iter().enumerate() {
         found(change);
         if place % 2 == 0 {

@@ -6,7 +6,8 @@ mod common;
 use common::{header_text, repository, run};
 use header::arguments::export;
 use header::constants::{
-    constant, CHAIN_BYTES, INSTANCE_BYTES, MATCHING_BYTES, PATH_BYTES, REFUSALS, STACKS,
+    constant, CHAIN_BYTES, INSTANCE_BYTES, MAPPING_BYTES, MATCHING_BYTES, PATH_BYTES, REFUSALS,
+    STACKS,
 };
 use header::model::first_failure;
 use header::program::program;
@@ -44,12 +45,15 @@ fn every_refusal_of_the_papers_is_met() {
 
 /// "An instance sheet is at most 51,220 bytes."  A matching sheet has 9 bits for
 /// each of 512 rows.  A path has 8 bits and 5 for each of at most 15 edges, a chain 8
-/// bits and 10 for each of at most 255 steps.
+/// bits and 10 for each of at most 255 steps.  A mapping has 4 bits for each of at most 16
+/// nodes and 16 attributes, and for each of at most 32 edges 4 and those of a path's edges.
 #[test]
 fn the_sizes_are_those_of_the_papers() {
     let (path, chain) = ((8 + 15 * 5 + 7) / 8, (8 + 255 * 10 + 7) / 8);
+    let mapping = (16 * 4 + 32 * (4 + 15 * 5) + 16 * 4) / 8;
     let [instance, matching] = [(INSTANCE_BYTES, 51_220), (MATCHING_BYTES, 512 * 9 / 8)];
-    for (name, bytes) in [instance, matching, (PATH_BYTES, path), (CHAIN_BYTES, chain)] {
+    let [path, chain] = [(PATH_BYTES, path), (CHAIN_BYTES, chain)];
+    for (name, bytes) in [instance, matching, path, chain, (MAPPING_BYTES, mapping)] {
         for trial in trials() {
             let places = 0..=trial.case.sheets.len();
             let sized = places.filter_map(|place| Some((place, trial.size(place)?)));
@@ -77,6 +81,9 @@ fn the_sizes_are_those_of_the_papers() {
     assert_eq!(result("the longest chain"), (320, Some(279)));
     assert_eq!(result("the longest chain, a tray of 278"), (278, None));
     assert_eq!(result("no chain, a tray of 0"), (0, Some(0)));
+    assert_eq!(result("the longest mapping"), (332, Some(332)));
+    assert_eq!(result("the longest mapping, a tray of a byte less"), (331, None));
+    assert_eq!(result("the longest mapping, whole"), (0, Some(0)));
 }
 
 #[test]
@@ -91,6 +98,7 @@ fn the_wrapper_has_the_same_words_and_sizes() {
     assert_eq!(header.value(MATCHING_BYTES), Some(migration::MOST_MATCHING_BYTES as u64));
     assert_eq!(header.value(PATH_BYTES), Some(migration::MOST_PATH_BYTES as u64));
     assert_eq!(header.value(CHAIN_BYTES), Some(migration::MOST_CHAIN_BYTES as u64));
+    assert_eq!(header.value(MAPPING_BYTES), Some(migration::MOST_MAPPING_BYTES as u64));
     for (name, bytes) in STACKS {
         assert_eq!(header.value(name), Some(bytes as u64), "{name}");
         assert_eq!(bytes % 1024, 0, "{name}");

@@ -112,6 +112,21 @@ extern "C" {
         tray_len: usize,
     ) -> u64;
 
+    pub(crate) fn migration_compose(
+        s: *const u8,
+        s_len: usize,
+        t: *const u8,
+        t_len: usize,
+        u: *const u8,
+        u_len: usize,
+        f: *const u8,
+        f_len: usize,
+        g: *const u8,
+        g_len: usize,
+        tray: *mut u8,
+        tray_len: usize,
+    ) -> u64;
+
     pub(crate) fn migration_add_row(
         s: *const u8,
         s_len: usize,

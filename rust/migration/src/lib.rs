@@ -45,6 +45,7 @@
 mod answer;
 mod chain;
 mod checks;
+mod compose;
 mod ffi;
 mod first_path;
 mod matchings;
@@ -55,6 +56,7 @@ mod rows;
 
 pub use chain::{path_chain, path_chain_into};
 pub use checks::{check_instance, check_mapping, check_schema};
+pub use compose::{compose, compose_into};
 pub use first_path::{first_path, first_path_into};
 pub use matchings::{
     check_pushed, check_raw, pushed_to_raw, pushed_to_raw_into, raw_to_pushed, raw_to_pushed_into,
@@ -80,6 +82,11 @@ pub const MOST_PATH_BYTES: usize = 11;
 /// The most bytes that a chain sheet has: 255 steps of 10 bits.  A tray of this
 /// size holds every result of [`path_chain`].
 pub const MOST_CHAIN_BYTES: usize = 320;
+
+/// The most bytes that a mapping sheet has: 16 nodes of 4 bits, 32 edges of 4 bits and 15
+/// edges of 5, 16 attributes of 4.  A tray of this size holds every result of
+/// [`compose`].
+pub const MOST_MAPPING_BYTES: usize = 332;
 
 /// The stack that [`check_schema`] needs.
 pub const STACK_CHECK_SCHEMA: usize = 16 * 1024;
@@ -107,6 +114,9 @@ pub const STACK_PI: usize = 512 * 1024;
 
 /// The stack that [`query`] needs.
 pub const STACK_QUERY: usize = 672 * 1024;
+
+/// The stack that [`compose`] needs.
+pub const STACK_COMPOSE: usize = 40 * 1024;
 
 /// The stack that each of the two checkers and the two turnings needs.
 pub const STACK_MATCHINGS: usize = 392 * 1024;

@@ -27,9 +27,10 @@ pub struct Refusal {
 
 /// Word and condition by number, as in document 01's table; 10 as request C-12 of
 /// document 02 has it, 18 and 19 as C-16 has them, whose changes are added to 12, 15 and
-/// 16.  Of the query 12 is about Sigma along
-/// H, 13 and 14 about Pi along G.  Of a change of a run 12 is about its Sigma, 15 about a
-/// row that is added to 512, 16 about either tray.
+/// 16.  In 7 and 8 S and T are the schemas that the mapping goes from and to: of the query
+/// S2 and S1 at place 5, S2 and S3 at 6, S3 and S4 at 7; of composing T and U at place 5.
+/// Of the query 12 is about Sigma along H, 13 and 14 about Pi along G.  Of a change of a
+/// run 12 is about its Sigma, 15 about a row that is added to 512, 16 about either tray.
 const TABLE: [(&str, &str); 19] = [
     ("cut", "the bits end before the last field does"),
     ("tail", "a filling bit is 1, or a byte follows"),

@@ -129,6 +129,54 @@ fn what_is_asked_of_g_and_h_is_told() {
     assert_eq!(answer, refused(12, 0));
 }
 
+/// T with welds between anomalies and joints, and a depth before the station; T to it; S
+/// to it.
+const WELDS: [u8; 7] = [0x18, 0x42, 0x00, 0x04, 0x48, 0x0C, 0x04];
+const TO_WELDS: [u8; 4] = [0x02, 0x20, 0x04, 0x40];
+const COMPOSED: [u8; 6] = [0x02, 0x02, 0x00, 0x48, 0x01, 0x11];
+/// Anomalies 700, 300, 705 of depths 250, 100, 400 at welds 2, 0, 1 of 3; the welds at
+/// joints 0, 1, 1 of 2.
+const WELDED: [u8; 35] = [
+    0x00, 0xC0, 0x30, 0x08, 0x04, 0x00, 0x00, 0x80, 0x00, 0x20, 0x10, //
+    0x00, 0x00, 0x0F, 0xA0, 0x00, 0x00, 0x06, 0x40, 0x00, 0x00, 0x19, 0x00, //
+    0x00, 0x00, 0x2B, 0xC0, 0x00, 0x00, 0x12, 0xC0, 0x00, 0x00, 0x2C, 0x10,
+];
+
+#[test]
+fn both_forms_agree_on_a_composed_mapping() {
+    let whole = compose(&S, &T, &WELDS, &F, &TO_WELDS);
+    assert_eq!(whole, Ok(COMPOSED.to_vec()));
+    forms_agree(whole, &|tray| compose_into(&S, &T, &WELDS, &F, &TO_WELDS, tray));
+}
+
+/// Along the composed mapping a book is pulled back as along G and then F.
+#[test]
+fn a_composed_mapping_is_two_in_turn() {
+    assert_eq!(check_mapping(&S, &WELDS, &COMPOSED), Ok(()));
+    let exchanged = delta(&T, &WELDS, &TO_WELDS, &WELDED).unwrap();
+    let in_turn = delta(&S, &T, &F, &exchanged).unwrap();
+    assert_eq!(in_turn.len(), 35);
+    assert_eq!(delta(&S, &WELDS, &COMPOSED, &WELDED), Ok(in_turn));
+}
+
+/// The place of each sheet of a composition; of two that are damaged the earlier is told.
+#[test]
+fn each_place_of_a_composition_is_told() {
+    let sheets: [&[u8]; 5] = [&S, &T, &WELDS, &F, &TO_WELDS];
+    let ask = |sheets: [&[u8]; 5]| {
+        let [s, t, u, f, g] = sheets;
+        compose_into(s, t, u, f, g, &mut [])
+    };
+    for place in 0..5 {
+        let (mut cut, mut rest_cut) = (sheets, sheets);
+        cut[place] = &[];
+        rest_cut[place..].fill(&[]);
+        assert_eq!(ask(cut), refused(1, place as u8 + 1));
+        assert_eq!(ask(rest_cut), refused(1, place as u8 + 1));
+    }
+    assert_eq!(ask(sheets), refused(16, 0));
+}
+
 /// The base example's run at the start of a tray, and a pushed tray.
 struct Trays {
     run: Vec<u8>,

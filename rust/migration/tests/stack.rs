@@ -30,6 +30,7 @@ fn stack(call: Call) -> usize {
         Call::Sigma => STACK_SIGMA,
         Call::Pi => STACK_PI,
         Call::Query => STACK_QUERY,
+        Call::Compose => STACK_COMPOSE,
         Call::CheckPushed | Call::CheckRaw | Call::PushedToRaw | Call::RawToPushed => {
             STACK_MATCHINGS
         }

@@ -20,7 +20,7 @@ fn outcome(case: &Case) -> Outcome {
 #[test]
 fn the_plain_version_and_the_reference_agree() {
     let first = fixed_and_refused(&mut Random::seeded(3)).into_iter();
-    let cases = first.chain(Chance::seeded(4).take(20_000));
+    let cases = first.chain(Chance::seeded(4).take(22_000));
     let mut tried = 0;
     for case in cases.filter(|case| matches!(case.call, Call::CheckInstance | Call::Sigma)) {
         assert_eq!(outcome(&case), reference_outcome(&case), "{case:?}");

@@ -3,9 +3,11 @@
 //! comes first. ... Then 12, 13, 14, 15; then the matching sheet (1, 2, 17);
 //! last 16. A refusal is the number and the sheet's place counted from 1 (0 for
 //! 12 to 16)."  The calls of requests C-11 and C-14 of document 02 keep to that
-//! order; the query of C-15 and the changes of C-16 have orders of their own.
+//! order; the query of C-15, the changes of C-16 and the composing of C-17 have
+//! orders of their own.
 
 use crate::chains::Chain;
+use crate::composed::composed;
 use crate::instance::Instance;
 use crate::mapping::Mapping;
 use crate::matching::Matching;
@@ -135,6 +137,20 @@ pub(crate) fn query_decoded(sheets: [&[u8]; 8]) -> Result<(Schema, Instance), Re
     let joined = at(0, joining.of(&projected))?;
     let united = at(0, uniting.of(&joined))?;
     Ok((s4, united))
+}
+
+/// The composed mapping of request C-17 of document 02: "For mappings F from S to T
+/// and G from T to U, provide the composed mapping".  The result is the whole sheet
+/// of a mapping from S to U.
+///
+/// "The composing call is lent S, T, U, F, G, judged in that order": places 1 to 5.
+pub fn compose(s: &[u8], t: &[u8], u: &[u8], f: &[u8], g: &[u8]) -> Result<Vec<u8>, Refusal> {
+    let s = at(1, Schema::accept(s))?;
+    let t = at(2, Schema::accept(t))?;
+    let u = at(3, Schema::accept(u))?;
+    let f = at(4, Mapping::accept(&s, &t, f))?;
+    let g = at(5, Mapping::accept(&t, &u, g))?;
+    Ok(composed(&s, &f, &g).to_sheet())
 }
 
 /// The pushed side's checker: the list (place 6) is a matching from Sigma of

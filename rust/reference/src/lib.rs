@@ -1,7 +1,8 @@
 //! A naive reference implementation of document 01, "Delta, Sigma and Pi for
-//! inspection run records", and of requests C-11, C-12, C-14, C-15 and C-16 of
+//! inspection run records", and of requests C-11, C-12, C-14, C-15, C-16 and C-17 of
 //! document 02, "Which rules made these paths equal", "Twelve o'clock is 720", "The
-//! first path of a class", "The dig sheet" and "Rows that come and go".
+//! first path of a class", "The dig sheet", "Rows that come and go" and "Two hops or
+//! one".
 //!
 //! It is written from the definitions, clarity before speed: equal paths are
 //! found by searching chains of steps, and the first of them stands for all;
@@ -22,6 +23,7 @@ pub mod bits;
 pub mod calls;
 pub mod chains;
 pub mod classes;
+pub mod composed;
 pub mod evenness;
 pub mod families;
 pub mod instance;
@@ -35,7 +37,7 @@ pub mod rows;
 pub mod schema;
 
 pub use calls::{
-    add_row, check_instance, check_mapping, check_pushed, check_raw, check_schema, delta,
+    add_row, check_instance, check_mapping, check_pushed, check_raw, check_schema, compose, delta,
     first_path, into_tray, into_tray_or_none, into_trays, path_chain, pi, pushed_to_raw, query,
     raw_to_pushed, sigma, withdraw_row, ChangedSheets,
 };

@@ -1,9 +1,10 @@
 //! A change of a run: a row that is added to a table, or one that is withdrawn from
 //! it; the question that it is, and what it has moved, in words.
 
+use crate::call::{Call, Role};
 use crate::instance::Instance;
 use crate::lent::Lent;
-use crate::question::{Answer, Call, Question, Role};
+use crate::question::{Answer, Question};
 use crate::schema::Schema;
 use crate::text::TextError;
 use migration::Refusal;

@@ -43,9 +43,11 @@
 #![warn(missing_docs)]
 
 mod bits;
+mod call;
 mod chain;
 mod change;
 mod classes;
+mod compose;
 mod csv;
 mod draw;
 mod explain;
@@ -64,6 +66,7 @@ mod text;
 mod why;
 
 pub use bits::{Fault, Unwritable};
+pub use call::{Call, Role};
 pub use chain::{Chain, Step};
 pub use change::{Change, ChangedRow};
 pub use classes::all_paths;
@@ -75,7 +78,7 @@ pub use mapping::Mapping;
 pub use matching::Matching;
 pub use path::Path;
 pub use query::{Route, Stage};
-pub use question::{Answer, Call, Question, Role};
+pub use question::{Answer, Question};
 pub use schema::{Column, Equation, Link, Schema};
 pub use tables::aligned_tables;
 pub use text::{Lines, TextError};

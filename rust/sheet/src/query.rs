@@ -1,8 +1,9 @@
 //! A query, Sigma along H of Pi along G of Delta along F: what it is lent, and the
 //! question that each of its three stages is.
 
+use crate::call::{Call, Role};
 use crate::lent::{Lent, LentSchema};
-use crate::question::{Answer, Call, Question, Role};
+use crate::question::{Answer, Question};
 use migration::Refusal;
 use std::fmt;
 
@@ -104,6 +105,7 @@ impl Question {
         let [from, to] = stage.schemas();
         let mut question = Question::new(stage.call());
         question.stage = Some(stage);
+        question.schema_names = stage.schema_names();
         question.s = self.route.schema(from).cloned();
         question.t = self.route.schema(to).cloned();
         question.mapping = self.route.mapping(stage).cloned();

@@ -1,151 +1,13 @@
 //! A question to a proved call: which call, and the sheets it is lent.
 
+use crate::call::{Call, Role};
 use crate::change::Change;
 use crate::instance::Instance;
 use crate::lent::{Lent, LentSchema};
 use crate::mapping::Mapping;
 use crate::query::{Route, Stage};
 use crate::schema::Schema;
-use migration::{
-    Refusal, MOST_CHAIN_BYTES, MOST_INSTANCE_BYTES, MOST_MATCHING_BYTES, MOST_PATH_BYTES,
-};
-
-/// The proved calls, and the tool's own question whether two paths are equal.
-#[derive(Debug, Clone, Copy, PartialEq, Eq, Hash)]
-pub enum Call {
-    /// Checks a schema.
-    CheckSchema,
-    /// Checks a mapping.
-    CheckMapping,
-    /// Checks an instance.
-    CheckInstance,
-    /// The first path that is equal to a path.
-    FirstPath,
-    /// Whether two paths are equal: whether `FirstPath` answers the same for both.
-    SamePath,
-    /// By which steps two paths are equal.
-    PathChain,
-    /// Pulls an instance of T back to S.
-    Delta,
-    /// Pushes an instance of S to T by joining tables.
-    Sigma,
-    /// Pushes an instance of S to T by fitting choices.
-    Pi,
-    /// Sigma of Pi of Delta, each along a mapping of its own.
-    Query,
-    /// Adds a row to a run, and pushes the run.
-    AddRow,
-    /// Withdraws a row from a run, and pushes the run.
-    WithdrawRow,
-    /// Checks a matching of the pushed side.
-    CheckPushed,
-    /// Checks a matching of the raw side.
-    CheckRaw,
-    /// Turns a matching of the pushed side into one of the raw side.
-    PushedToRaw,
-    /// Turns a matching of the raw side into one of the pushed side.
-    RawToPushed,
-}
-
-/// What a lent sheet is for a call.
-#[derive(Debug, Clone, Copy, PartialEq, Eq, Hash)]
-pub enum Role {
-    /// The schema S, or the only schema.
-    S,
-    /// The schema T.
-    T,
-    /// The mapping of S to T.
-    Mapping,
-    /// An instance of S, or of a query's S1.
-    Run,
-    /// An instance of T.
-    Book,
-    /// A path of S, the first of two or the only one.
-    P,
-    /// The second path of S.
-    Q,
-    /// The list of partners.
-    List,
-    /// A query's schema by its number: S1 to S4.
-    Schema(usize),
-    /// The mapping of a query's stage: F, G or H.
-    Along(Stage),
-}
-
-impl Call {
-    /// The call's name; of the tool's own question the command's.
-    pub fn name(self) -> &'static str {
-        match self {
-            Call::CheckSchema => "check_schema",
-            Call::CheckMapping => "check_mapping",
-            Call::CheckInstance => "check_instance",
-            Call::FirstPath => "first_path",
-            Call::SamePath => "same-path",
-            Call::PathChain => "path_chain",
-            Call::Delta => "delta",
-            Call::Sigma => "sigma",
-            Call::Pi => "pi",
-            Call::Query => "query",
-            Call::AddRow => "add_row",
-            Call::WithdrawRow => "withdraw_row",
-            Call::CheckPushed => "check_pushed",
-            Call::CheckRaw => "check_raw",
-            Call::PushedToRaw => "pushed_to_raw",
-            Call::RawToPushed => "raw_to_pushed",
-        }
-    }
-
-    /// What the sheets are, in the order of their places.
-    pub fn roles(self) -> &'static [Role] {
-        use Role::{Along, Book, List, Mapping, Run, Schema, P, Q, S, T};
-        use Stage::{Join, Project, Unite};
-        match self {
-            Call::CheckSchema => &[S],
-            Call::CheckMapping => &[S, T, Mapping],
-            Call::CheckInstance => &[S, Run],
-            Call::FirstPath => &[S, P],
-            Call::SamePath | Call::PathChain => &[S, P, Q],
-            Call::Delta => &[S, T, Mapping, Book],
-            Call::Sigma | Call::Pi | Call::AddRow | Call::WithdrawRow => &[S, T, Mapping, Run],
-            Call::Query => &[
-                Schema(1),
-                Schema(2),
-                Schema(3),
-                Schema(4),
-                Along(Project),
-                Along(Join),
-                Along(Unite),
-                Run,
-            ],
-            Call::CheckPushed | Call::CheckRaw | Call::PushedToRaw | Call::RawToPushed => {
-                &[S, T, Mapping, Run, Book, List]
-            }
-        }
-    }
-
-    /// The schema that the run is an instance of.
-    pub fn run_schema(self) -> Role {
-        match self {
-            Call::Query => Role::Schema(1),
-            _ => Role::S,
-        }
-    }
-
-    /// The bytes of a tray that holds every result.
-    pub fn most_bytes(self) -> usize {
-        match self {
-            Call::PushedToRaw | Call::RawToPushed => MOST_MATCHING_BYTES,
-            Call::FirstPath => MOST_PATH_BYTES,
-            Call::PathChain => MOST_CHAIN_BYTES,
-            _ => MOST_INSTANCE_BYTES,
-        }
-    }
-
-    /// Whether its list is one of the pushed side.
-    pub fn is_pushed(self) -> bool {
-        matches!(self, Call::CheckPushed | Call::PushedToRaw)
-    }
-}
+use migration::Refusal;
 
 /// What a call answers when it accepts.
 #[derive(Debug, Clone, PartialEq, Eq)]
@@ -196,8 +58,12 @@ pub struct Question {
     pub s: Option<LentSchema>,
     /// The schema T.
     pub t: Option<LentSchema>,
-    /// The mapping.
+    /// The schema U.
+    pub u: Option<LentSchema>,
+    /// The mapping of S to T.
     pub mapping: Option<Lent>,
+    /// The mapping of T to U.
+    pub g: Option<Lent>,
     /// The instance of S, or of a query's S1.
     pub run: Option<Lent>,
     /// The instance of T.
@@ -215,6 +81,8 @@ pub struct Question {
     /// The stage of a query that this question is; none where it is asked for
     /// itself.
     pub(crate) stage: Option<Stage>,
+    /// What S and T are called.
+    pub(crate) schema_names: [&'static str; 2],
     /// The bytes of the lent tray, of a change those of both; by default as many as
     /// hold every result.
     pub tray: Option<usize>,
@@ -227,7 +95,9 @@ impl Question {
             call,
             s: None,
             t: None,
+            u: None,
             mapping: None,
+            g: None,
             run: None,
             book: None,
             p: None,
@@ -236,6 +106,7 @@ impl Question {
             route: Route::default(),
             change: None,
             stage: None,
+            schema_names: ["S", "T"],
             tray: None,
         }
     }
@@ -243,8 +114,11 @@ impl Question {
     /// The sheet with a role.
     pub fn lent(&self, role: Role) -> Option<&Lent> {
         match role {
-            Role::S | Role::T | Role::Schema(_) => self.lent_schema(role).map(|found| &found.lent),
+            Role::S | Role::T | Role::U | Role::Schema(_) => {
+                self.lent_schema(role).map(|found| &found.lent)
+            }
             Role::Mapping => self.mapping.as_ref(),
+            Role::G => self.g.as_ref(),
             Role::Run => self.run.as_ref(),
             Role::Book => self.book.as_ref(),
             Role::P => self.p.as_ref(),
@@ -259,6 +133,7 @@ impl Question {
         match role {
             Role::S => self.s.as_ref(),
             Role::T => self.t.as_ref(),
+            Role::U => self.u.as_ref(),
             Role::Schema(number) => self.route.schema(number),
             _ => None,
         }
@@ -269,6 +144,7 @@ impl Question {
         let place = match role {
             Role::S => Some(&mut self.s),
             Role::T => Some(&mut self.t),
+            Role::U => Some(&mut self.u),
             Role::Schema(number) => self.route.schemas.get_mut(number.wrapping_sub(1)),
             _ => None,
         };
@@ -307,6 +183,7 @@ impl Question {
             Call::Sigma => self.filled(|tray| migration::sigma_into(s, t, f, run, tray)),
             Call::Pi => self.filled(|tray| migration::pi_into(s, t, f, run, tray)),
             Call::Query => self.filled(|tray| self.query_into(tray)),
+            Call::Compose => self.filled(|tray| self.compose_into(tray)),
             Call::AddRow | Call::WithdrawRow => self.ask_change(),
             Call::CheckPushed => migration::check_pushed(s, t, f, run, book, list).map(accepted),
             Call::CheckRaw => migration::check_raw(s, t, f, run, book, list).map(accepted),
@@ -330,11 +207,6 @@ impl Question {
     ) -> Result<Answer, Refusal> {
         let mut tray = self.new_tray();
         call(&mut tray).map(|length| filled(tray, length))
-    }
-
-    /// What S and T are called.
-    pub(crate) fn schema_names(&self) -> [&'static str; 2] {
-        self.stage.map_or(["S", "T"], Stage::schema_names)
     }
 
     /// S with its names, where it can be decoded.

@@ -1,10 +1,11 @@
 //! Why two paths are equal or unequal, in words.
 
 use crate::bits::counted;
+use crate::call::Role;
 use crate::chain::Chain;
 use crate::classes::Classes;
 use crate::path::Path;
-use crate::question::{Answer, Question, Role};
+use crate::question::{Answer, Question};
 use crate::schema::Schema;
 
 impl Question {

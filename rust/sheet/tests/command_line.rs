@@ -9,8 +9,8 @@ use std::process::Stdio;
 #[test]
 fn bad_usage_has_status_2_and_points_to_the_help() {
     let folder = Folder::with_example("usage", "base");
-    let names = "pack, show, check, delta, sigma, pi, query, add-row, withdraw-row, match, turn, \
-                 first-path, same-path, why, draw, version or help";
+    let names = "pack, show, check, delta, sigma, pi, query, compose, add-row, withdraw-row, \
+                 match, turn, first-path, same-path, why, draw, version or help";
     let told = |line: &str, what: &str, see: &str| {
         folder.sheet(line).bad(&format!("sheet: {what}\nsee `sheet help{see}`\n"));
     };
@@ -105,6 +105,7 @@ fn help_goes_to_standard_output() {
         "sigma",
         "pi",
         "query",
+        "compose",
         "add-row",
         "withdraw-row",
         "match",

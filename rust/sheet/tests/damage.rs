@@ -34,6 +34,9 @@ fn accepted(random: &mut Random, call: Call) -> Question {
         question.run = Some(Lent::from_sheet("run.sheet", run_sheet));
         question.book = Some(Lent::from_sheet("book.sheet", book));
         question.list = Some(Lent::from_sheet("list.sheet", own.to_sheet().unwrap()));
+        question.u = question.t.clone();
+        let same = generate::copies(&t, 1).1.to_sheet().unwrap();
+        question.g = Some(Lent::from_sheet("g.sheet", same));
         let Ok(Answer::Sheet(raw)) = question.ask() else { continue };
         if call == Call::Query {
             route(&mut question, &s);
@@ -77,10 +80,11 @@ fn set(question: &mut Question, role: Role, sheet: Vec<u8>) {
     let file = question.lent(role).unwrap().file.clone();
     let lent = Some(Lent::from_sheet(&file, sheet.clone()));
     match role {
-        Role::S | Role::T | Role::Schema(_) => {
+        Role::S | Role::T | Role::U | Role::Schema(_) => {
             question.lend_schema(role, LentSchema::from_sheet(&file, sheet));
         }
         Role::Mapping => question.mapping = lent,
+        Role::G => question.g = lent,
         Role::Run => question.run = lent,
         Role::Book => question.book = lent,
         Role::P => question.p = lent,
@@ -91,7 +95,7 @@ fn set(question: &mut Question, role: Role, sheet: Vec<u8>) {
 }
 
 /// Changes are asked without their rows, which have tests of their own.
-const CALLS: [Call; 16] = [
+const CALLS: [Call; 17] = [
     Call::CheckSchema,
     Call::CheckMapping,
     Call::CheckInstance,
@@ -108,6 +112,7 @@ const CALLS: [Call; 16] = [
     Call::CheckRaw,
     Call::PushedToRaw,
     Call::RawToPushed,
+    Call::Compose,
 ];
 
 #[test]
@@ -130,7 +135,9 @@ fn the_cause_is_found_along_mappings_at_random() {
         question.run = Some(Lent::from_sheet("run.sheet", run.to_sheet().unwrap()));
         question.book = Some(Lent::from_sheet("book.sheet", book.to_sheet().unwrap()));
         question.list = Some(Lent::from_sheet("list.sheet", vec![0; random.below(6)]));
-        let others = |call: &Call| *call != Call::Query && !call.roles().contains(&Role::P);
+        let others = |call: &Call| {
+            !matches!(call, Call::Query | Call::Compose) && !call.roles().contains(&Role::P)
+        };
         for call in CALLS.into_iter().filter(others) {
             question.call = call;
             met[cause_is_found(&question, seed)] += 1;

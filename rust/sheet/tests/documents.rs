@@ -61,15 +61,16 @@ fn run_blocks(page: &Path, marked: &str, example_name: &str) -> usize {
 #[test]
 fn the_pages_show_what_the_command_does() {
     let folder = documentation();
-    let (mut pages, mut of_the_book, mut of_the_digs) = (0, 0, 0);
+    let (mut pages, mut of_the_book, mut of_the_digs, mut of_the_exchange) = (0, 0, 0, 0);
     for name in names_in(&folder).iter().filter(|name| name.ends_with(".md")) {
         assert!(run_page(&folder.join(name), "base") > 0, "{name} shows no command");
         of_the_book += run_blocks(&folder.join(name), "console book", "book");
         of_the_digs += run_blocks(&folder.join(name), "console dig", "dig");
+        of_the_exchange += run_blocks(&folder.join(name), "console exchange", "exchange");
         pages += 1;
     }
     assert_eq!(pages, 5);
-    assert_eq!((of_the_book, of_the_digs), (9, 3));
+    assert_eq!((of_the_book, of_the_digs, of_the_exchange), (9, 3, 3));
 }
 
 #[test]
@@ -77,6 +78,7 @@ fn the_examples_readmes_show_what_the_command_does() {
     assert!(run_page(&example("base").join("README.md"), "base") >= 8);
     assert!(run_page(&example("book").join("README.md"), "book") >= 8);
     assert!(run_page(&example("dig").join("README.md"), "dig") >= 8);
+    assert!(run_page(&example("exchange").join("README.md"), "exchange") >= 7);
 }
 
 /// The README's commands, from the repository's folder: building the tool, one

@@ -3,7 +3,7 @@
 
 mod common;
 
-use common::{bare_rows, hex, lines, Folder, DIG_MAPPINGS, DIG_SCHEMAS};
+use common::{bare_rows, hex, lines, misfit, Folder, DIG_MAPPINGS, DIG_SCHEMAS};
 
 /// A copy of the dig example with one file changed by replacing a text.
 fn changed(name: &str, file: &str, from: &str, to: &str) -> Folder {
@@ -51,8 +51,6 @@ mend: take out one of these links
 
 #[test]
 fn mappings_at_places_5_to_7() {
-    let because = "an image is missing in T, does not join, has the wrong end, or an attribute's \
-                   image has another kind or sits at another node than its node's image";
     let folder = changed(
         "query-misfit",
         "needed-to-vendor.mapping",
@@ -61,9 +59,10 @@ fn mappings_at_places_5_to_7() {
     );
     query(&folder).refused(&format!(
         "needed-to-vendor.mapping line 9: Dent_Joint.section goes to Spool.weld, which ends at Girth_Weld, but Section goes to Section (7, misfit)
-query refused sheet 5, mapping F (needed-to-vendor.mapping): {because}
+query refused sheet 5, mapping F (needed-to-vendor.mapping): {}
 mend: send Dent_Joint.section to a path from Spool to Section
-"
+",
+        misfit("S1")
     ));
     let folder = Folder::with_example("query-missing", "dig");
     folder
@@ -75,9 +74,10 @@ mend: send Dent_Joint.section to a path from Spool to Section
     let [f, h] = ["needed-to-vendor.mapping", "joined-to-digs.mapping"];
     folder.sheet(&format!("query {DIG_SCHEMAS} {f} g.sheet {h} run")).refused(&format!(
         "g.sheet: Dent goes to node 5, but the nodes of S3 are 0 to 2 (7, misfit)
-query refused sheet 6, mapping G (g.sheet): {because}
+query refused sheet 6, mapping G (g.sheet): {}
 mend: send Dent to a node of S3
-"
+",
+        misfit("S3")
     ));
     folder.write("h.sheet", hex("00"));
     let g = "needed-to-joined.mapping";
@@ -101,14 +101,16 @@ fn a_rule_that_a_mapping_breaks() {
         "ruled.schema line 5: equation A.x = A.y goes to A.x = A.y, which are unequal in S4 (8, broken rule)
   equal to A.x in S4: no other path
   equal to A.y in S4: no other path
-query refused sheet 7, mapping H (same.mapping): an equation of S has unequal images in T
+query refused sheet 7, mapping H (same.mapping): an equation of S3 has unequal images in S4
 mend: send the links to other paths, or state `equation A.x = A.y` in free.schema
 ",
     );
     let told =
         folder.sheet(&format!("query free.schema ruled.schema ruled.schema free.schema {same}"));
     assert!(told.err().contains("which are unequal in S1 (8, broken rule)"), "{}", told.err());
-    assert!(told.err().contains("\nquery refused sheet 5, mapping F (same.mapping): "));
+    let because = "an equation of S2 has unequal images in S1";
+    let refused = format!("\nquery refused sheet 5, mapping F (same.mapping): {because}\n");
+    assert!(told.err().contains(&refused), "{}", told.err());
     assert_eq!(told.status(), 1);
 }
 

@@ -3,7 +3,7 @@
 
 mod common;
 
-use common::{bare_rows, equal_links, hex, lines, Folder, MAPPED};
+use common::{bare_rows, equal_links, hex, lines, misfit, Folder, MAPPED};
 
 #[test]
 fn refusal_1_cut() {
@@ -172,8 +172,7 @@ mend: take out links or tables; an equation does not make the paths fewer
 #[test]
 fn refusal_7_misfit() {
     let folder = Folder::with_example("refusal-7", "base");
-    let because = "an image is missing in T, does not join, has the wrong end, or an attribute's \
-                   image has another kind or sits at another node than its node's image";
+    let because = misfit("T");
     let text = String::from_utf8(folder.read("vendor-to-operator.mapping")).unwrap();
     let check =
         |name: &str| folder.sheet(&format!("check mapping vendor.schema operator.schema {name}"));

@@ -48,6 +48,7 @@ fn result(case: &Case) -> Result<Option<Vec<u8>>, Refusal> {
         (Call::RawToPushed, [s, t, f, run, book, list]) => raw_to_pushed(s, t, f, run, book, list),
         (Call::PathChain, [s, p, q]) => return path_chain(s, p, q),
         (Call::Query, [s1, s2, s3, s4, f, g, h, run]) => query(s1, s2, s3, s4, f, g, h, run),
+        (Call::Compose, [s, t, u, f, g]) => compose(s, t, u, f, g),
         _ => unreachable!("a call with a tray, lent its sheets"),
     };
     sheet.map(Some)

@@ -34,6 +34,8 @@ pub enum Call {
     /// S, T, a mapping, a run in its tray; the run's byte length, a table, a row's number;
     /// a tray.
     WithdrawRow,
+    /// S, T, U, a mapping of S to T, a mapping of T to U; a tray.
+    Compose,
 }
 
 /// What stands on a sheet.
@@ -64,7 +66,7 @@ pub enum Kind {
 
 impl Call {
     /// All calls.
-    pub const ALL: [Call; 15] = [
+    pub const ALL: [Call; 16] = [
         Call::CheckSchema,
         Call::CheckMapping,
         Call::CheckInstance,
@@ -80,6 +82,7 @@ impl Call {
         Call::Query,
         Call::AddRow,
         Call::WithdrawRow,
+        Call::Compose,
     ];
 
     /// The calls that change a run in its tray.
@@ -103,6 +106,7 @@ impl Call {
             Call::Query => "query",
             Call::AddRow => "add_row",
             Call::WithdrawRow => "withdraw_row",
+            Call::Compose => "compose",
         }
     }
 
@@ -111,7 +115,8 @@ impl Call {
     /// two instances the run over S comes first. ... then the matching sheet".  Of
     /// the query, by request C-15, "schemas first, then F, G, H, then the run".  Of a
     /// change, by request C-16, "S, T, mapping, run and 12 are judged first", then the
-    /// added row.
+    /// added row.  "The composing call is lent S, T, U, F, G, judged in that order", by
+    /// request C-17.
     pub fn sheets(self) -> &'static [Kind] {
         use Kind::*;
         const F: Kind = Mapping { from: 1, to: 2 };
@@ -140,6 +145,7 @@ impl Call {
             ],
             Call::AddRow => &[Schema, Schema, F, OF_S, Row],
             Call::WithdrawRow => &[Schema, Schema, F, OF_S],
+            Call::Compose => &[Schema, Schema, Schema, F, Mapping { from: 2, to: 3 }],
         }
     }
 
@@ -172,7 +178,7 @@ impl Call {
         match self {
             CheckSchema | CheckMapping | CheckInstance | CheckPushed | CheckRaw => false,
             FirstPath | Delta | Sigma | Pi | PushedToRaw | RawToPushed | PathChain | Query
-            | AddRow | WithdrawRow => true,
+            | AddRow | WithdrawRow | Compose => true,
         }
     }
 }
@@ -211,6 +217,10 @@ impl Case {
 
     /// The most bytes that a chain has: 8 bits and 10 for each of 255 steps.
     pub const MOST_CHAIN: usize = 320;
+
+    /// The most bytes that a mapping has: 4 bits for each of 16 nodes, 4 and 15 times 5 for
+    /// each of 32 edges, 4 for each of 16 attributes.
+    pub const MOST_MAPPING: usize = 332;
 
     /// A case of a call without a tray, or with an empty one.
     pub fn new(name: impl Into<String>, call: Call, sheets: Vec<Vec<u8>>) -> Self {

@@ -38,6 +38,25 @@ pub fn even_mapping(random: &mut Random) -> Mapped {
     }
 }
 
+/// An accepted even mapping of some schema to this one, if one is soon found.  Some edges
+/// lie over longer paths.
+pub fn even_mapping_to(random: &mut Random, t: &Schema) -> Option<Mapped> {
+    for _ in 0..8 {
+        let k = instance(random, t, 3);
+        if k.total_rows() == 0 || k.total_rows() > Schema::MOST_NODES {
+            continue;
+        }
+        let mut elements = Elements::over(random, t.clone(), &k, None);
+        if random.once_in(2) {
+            elements.add_composites(random, &k);
+        }
+        if elements.mapped.is_accepted() {
+            return Some(elements.mapped);
+        }
+    }
+    None
+}
+
 /// An accepted even mapping of one or two copies of a large schema to it.
 pub fn copies(random: &mut Random) -> Mapped {
     loop {

@@ -4,6 +4,8 @@ use crate::base::*;
 use crate::build::*;
 use crate::call::{Call, Case};
 use crate::change_limits::base_dent;
+use crate::composable::Composable;
+use crate::compositions::base_composable;
 use crate::digs::Dig;
 use crate::queries::base_dig;
 use crate::trays::{Change, Trays};
@@ -34,6 +36,7 @@ pub fn base() -> Vec<Case> {
         (Call::PushedToRaw, pushed),
         (Call::RawToPushed, raw),
         (Call::Query, base_dig().sheets()),
+        (Call::Compose, base_composable().sheets()),
     ];
     let mut cases = cases.map(|(call, sheets)| with_room("base", call, sheets)).to_vec();
     let changes = [Change::add(0, &base_dent()), Change::withdraw(0, 0)];
@@ -49,6 +52,7 @@ fn with_room(size: &str, call: Call, sheets: Vec<Vec<u8>>) -> Case {
     let most = match call {
         Call::FirstPath => Case::MOST_PATH,
         Call::PathChain => Case::MOST_CHAIN,
+        Call::Compose => Case::MOST_MAPPING,
         _ => Case::MOST_RESULT,
     };
     Case::new(format!("{size}.{}", call.name()), call, sheets).with_tray(most)
@@ -112,6 +116,14 @@ pub fn full_dig() -> Dig {
     Dig { schemas: [(); 4].map(|()| s.clone()), f, g, h, run }
 }
 
+/// Two mappings at full size: each schema has two copies of one, 256 paths, and F and G send
+/// each copy to the other.
+pub fn full_composable() -> Composable {
+    let (s, _) = two_copies(&half_schema());
+    let mappings = vec![exchanged(&s); 2];
+    Composable { schemas: vec![s; 3], mappings }
+}
+
 /// An instance with so many rows in each table; twin links are equal.
 pub fn rows(schema: &Schema, each: usize) -> Instance {
     let link = |edge: &Edge| {
@@ -131,7 +143,8 @@ pub fn rows(schema: &Schema, each: usize) -> Instance {
 
 /// Every call on sheets of full size: S with 16 nodes, 32 edges, 16 columns, 32
 /// equations, 256 paths, the run with 512 rows; Sigma, the matching calls and the changes
-/// along the mapping of two copies to one; the query with four such schemas.
+/// along the mapping of two copies to one; the query with four such schemas, the composing
+/// call with three.
 pub fn full() -> Vec<Case> {
     let t = half_schema();
     let (s, f) = two_copies(&t);
@@ -163,6 +176,7 @@ pub fn full() -> Vec<Case> {
         (Call::PushedToRaw, sides(&pushed)),
         (Call::RawToPushed, sides(&raw)),
         (Call::Query, full_dig().sheets()),
+        (Call::Compose, full_composable().sheets()),
     ];
     let mut cases = cases.map(|(call, sheets)| with_room("full", call, sheets)).to_vec();
     cases.extend(full_changes());

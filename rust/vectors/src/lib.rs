@@ -3,11 +3,13 @@
 //!
 //! - [`schemas`], [`instances`], [`mappings`], [`even`] make sheets that are
 //!   accepted, [`world`] sets of them that fit together, [`digs`] those of a query,
-//!   [`questions`] two paths of a schema in which many are equal;
+//!   [`composable`] mappings one behind the other, [`questions`] two paths of a schema
+//!   in which many are equal;
 //! - [`damage`] makes one sheet of such a set one that is sent back;
 //! - [`papers`], [`full`], [`limits`], [`first_paths`], [`chains`], [`queries`],
-//!   [`query_refusals`], [`puzzles`], [`stream`] are the cases, [`record`] the vector file
-//!   and [`report`] their count by outcome;
+//!   [`query_refusals`], [`compositions`], [`composition_refusals`], [`puzzles`],
+//!   [`stream`] are the cases, [`record`] the vector file and [`report`] their count by
+//!   outcome;
 //! - [`change_limits`], [`change_faults`], [`change_refusals`] and [`changes`] are those of
 //!   the calls that change a run, in [`trays`], with [`rows`] that come and go;
 //! - [`path_questions`] are the stored ones about two paths, with their answers;
@@ -27,6 +29,9 @@ pub mod change_faults;
 pub mod change_limits;
 pub mod change_refusals;
 pub mod changes;
+pub mod composable;
+pub mod composition_refusals;
+pub mod compositions;
 pub mod damage;
 pub mod digs;
 pub mod even;

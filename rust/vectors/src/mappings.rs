@@ -1,5 +1,6 @@
 //! Accepted mappings, by chance.
 
+use crate::build;
 use crate::random::Random;
 use crate::schemas::{add_attributes, add_equations, graph, is_accepted, woven};
 use reference::classes::Classes;
@@ -48,6 +49,58 @@ pub fn mapping(random: &mut Random, loose: bool) -> Mapped {
         pair_attributes(random, &mut s, &mut t, &mut f, loose);
         if is_accepted(&t) {
             return Mapped { s, t, f };
+        }
+    }
+}
+
+/// An accepted mapping, even or not, of some schema to this one; of four one may miss nodes.
+/// Several attributes may have one image, and some may be the image of none.
+pub fn mapping_to(random: &mut Random, t: &Schema) -> Mapped {
+    let classes = Classes::of(t);
+    loop {
+        let once = if random.once_in(4) { 1..1 } else { 0..t.nodes };
+        let more = 1 + random.below(4);
+        let nodes = once.chain((0..more).map(|_| random.below(t.nodes))).collect();
+        let nodes = random.shuffled(nodes);
+        let mut s = build::graph(nodes.len(), &[]);
+        let mut f = Mapping { nodes, edges: vec![], attributes: vec![] };
+        add_edges_over(random, &mut s, t, &mut f);
+        let image = |p: &Path| classes.first(&f.path_image(p));
+        add_equations(random, &mut s, 3, |p, q| image(p) == image(q));
+        for _ in 0..2 + random.below(5) {
+            let Some(b) = random.any_in(0..t.attributes.len()) else { break };
+            let Attribute { node, kind } = t.attributes[b];
+            if let Some(node) = random.any_of(&f.fibre(node)) {
+                s.attributes.push(Attribute { node, kind });
+                f.attributes.push(b);
+            }
+        }
+        let mapped = Mapped { s, t: t.clone(), f };
+        if mapped.is_accepted() {
+            return mapped;
+        }
+    }
+}
+
+/// Some edges of S over paths of T by chance, half of them the longer of two.  They lead
+/// from nodes over longer ways of T to nodes over shorter ones, so that there is no loop.
+fn add_edges_over(random: &mut Random, s: &mut Schema, t: &Schema, f: &mut Mapping) {
+    let paths = all_paths(t);
+    let lengths = |d: usize| paths.iter().filter(move |q| q.start == d).map(|q| q.edges.len());
+    let shuffled = random.shuffled((0..s.nodes).collect());
+    let longest = f.nodes.iter().map(|&d| lengths(d).max());
+    let rank: Vec<_> = longest.zip(shuffled).collect();
+    for _ in 0..4 + random.below(2 * t.nodes + 4) {
+        let tried = (0..1 + random.below(2)).map(|_| random.one_of(&paths));
+        let q = tried.max_by_key(|q| q.edges.len()).expect("a path");
+        let source = random.any_of(&f.fibre(q.start));
+        let target = random.any_of(&f.fibre(q.end(t).expect("a path of T")));
+        match (source, target) {
+            (Some(source), Some(target)) if rank[source] > rank[target] => {
+                s.edges.push(Edge { source, target });
+                f.edges.push(q.edges.clone());
+            }
+            _ => {}
         }
     }
 }

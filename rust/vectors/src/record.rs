@@ -20,6 +20,8 @@ use crate::call::{Call, Case};
 use crate::change_limits::change_limits;
 use crate::change_refusals;
 use crate::changes::Streams;
+use crate::composition_refusals;
+use crate::compositions::compositions;
 use crate::digs::fruitful_dig;
 use crate::limits::limits;
 use crate::papers::papers;
@@ -39,13 +41,15 @@ pub fn stored_cases() -> Vec<Case> {
     let twice = [for_each_refusal(&mut random), for_each_refusal(&mut random)];
     let made = twice.into_iter().flatten().map(|expected| expected.case);
     let short = |case: &Case| record(case).len() <= MOST_RECORD_BY_CHANCE;
-    let chance = Chance::seeded(2).filter(short).take(CASES_BY_CHANCE);
+    let chance = Chance::seeded(2).filter(|case| case.call != Call::Compose);
+    let chance = chance.filter(short).take(CASES_BY_CHANCE);
     let query = |number: usize| {
         let dig = fruitful_dig(&mut random, 2 + number % 5);
         dig.case(format!("query {number}")).with_tray(400 + number)
     };
     let queries = (0..).map(query).filter(short).take(QUERIES_BY_CHANCE);
-    fixed.chain(made).chain(chance).chain(queries).chain(stored_changes()).collect()
+    let others = fixed.chain(made).chain(chance).chain(queries);
+    others.chain(stored_changes()).chain(stored_compositions()).collect()
 }
 
 /// Those that change a run: the fixed ones, those made for a refusal each, and streams,
@@ -57,6 +61,15 @@ fn stored_changes() -> Vec<Case> {
     let short = |case: &Case| record(case).len() <= MOST_CHANGE_BY_CHANCE;
     let streams = Streams::seeded(6).map(untouched).filter(short).take(CHANGES_BY_CHANCE);
     change_limits().into_iter().chain(made).chain(streams).collect()
+}
+
+/// Those of the composing call: the fixed ones, those made for a refusal each, and others.
+fn stored_compositions() -> Vec<Case> {
+    let mut random = Random::seeded(7);
+    let twice = [(); 2].map(|()| composition_refusals::for_each_refusal(&mut random));
+    let made = twice.into_iter().flatten().map(|expected| expected.case);
+    let chance = Chance::seeded(8).filter(|case| case.call == Call::Compose);
+    compositions().into_iter().chain(made).chain(chance.take(COMPOSITIONS_BY_CHANCE)).collect()
 }
 
 /// So many of the stored cases are made by chance.
@@ -73,6 +86,9 @@ const CHANGES_BY_CHANCE: usize = 400;
 
 /// None of these is longer than so many bytes.
 const MOST_CHANGE_BY_CHANCE: usize = 400;
+
+/// So many more are of the composing call.
+const COMPOSITIONS_BY_CHANCE: usize = 240;
 
 /// A case as a record.
 pub fn record(case: &Case) -> Vec<u8> {

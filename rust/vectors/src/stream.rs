@@ -6,6 +6,9 @@ use crate::answer::result_length;
 use crate::call::{Call, Case};
 use crate::change_limits::{change_limits, longest_changes};
 use crate::change_refusals;
+use crate::composable::Composable;
+use crate::composition_refusals;
+use crate::compositions::compositions;
 use crate::damage::Damage;
 use crate::digs::any_lent_dig;
 use crate::even::{even_mapping, uneven_mapping, Unevenness};
@@ -31,13 +34,13 @@ pub struct Expected {
 const WITH_LIST: [Call; 4] =
     [Call::CheckPushed, Call::CheckRaw, Call::PushedToRaw, Call::RawToPushed];
 
-/// For each call that changes no run, place and damage a case with that damage; then
-/// those for the numbers of no single sheet.  The query has random numbers of its own, so
-/// that the others' cases do not depend on it.
+/// For each call, place and damage a case with that damage; then those for the numbers of
+/// no single sheet.  The query has random numbers of its own, so that the others' cases do
+/// not depend on it; the changes of a run and the composing call have cases of their own.
 pub fn for_each_refusal(random: &mut Random) -> Vec<Expected> {
     let mut of_query = random.clone();
     let mut cases = Vec::new();
-    for call in not_changes() {
+    for call in others() {
         let random = if call == Call::Query { &mut of_query } else { &mut *random };
         for (place, &kind) in call.sheets().iter().enumerate() {
             for damage in Damage::of(kind) {
@@ -54,16 +57,19 @@ pub fn for_each_refusal(random: &mut Random) -> Vec<Expected> {
     cases
 }
 
-/// The calls that change no run.
-fn not_changes() -> impl Iterator<Item = Call> {
-    Call::ALL.into_iter().filter(|call| !call.is_change())
+/// The calls but the changes of a run and the composing call.
+fn others() -> impl Iterator<Item = Call> {
+    Call::ALL.into_iter().filter(|call| !call.is_change() && *call != Call::Compose)
 }
 
 /// The fixed cases of the calls that change no run, the longest too, and one for each
 /// refusal.
 pub fn fixed_and_refused(random: &mut Random) -> Vec<Case> {
-    let refused = for_each_refusal(random).into_iter().map(|expected| expected.case);
-    papers().into_iter().chain(limits()).chain(longest()).chain(refused).collect()
+    let refused = for_each_refusal(random).into_iter();
+    let refused = refused.chain(composition_refusals::for_each_refusal(random));
+    let refused = refused.map(|expected| expected.case);
+    let fixed = papers().into_iter().chain(limits()).chain(longest()).chain(compositions());
+    fixed.chain(refused).collect()
 }
 
 /// The same of the changes of runs.
@@ -86,8 +92,8 @@ fn damaged(random: &mut Random, call: Call, place: usize, damage: Damage) -> Cas
     panic!("{} {name}: no world allows it", call.name());
 }
 
-/// Cases for 12, 13, 15 and 16 of every call but the query; those for 14 are among the
-/// limits.
+/// Cases for 12, 13, 15 and 16 of each of these calls but the query; those for 14 are among
+/// the limits.
 fn for_no_single_sheet(random: &mut Random) -> Vec<Expected> {
     let mut cases = Vec::new();
     let mut add = |number: u8, case: Case| {
@@ -110,7 +116,7 @@ fn for_no_single_sheet(random: &mut Random) -> Vec<Expected> {
         add(15, Case::new("too many rows pulled back", call, sheets).with_tray(600));
     }
     add(15, too_many_families(random));
-    for call in not_changes().filter(|call| call.has_tray() && *call != Call::Query) {
+    for call in others().filter(|call| call.has_tray() && *call != Call::Query) {
         for _ in 0..3 {
             let (case, needed) = accepted(random, call);
             add(16, case.clone().with_tray(needed - 1));
@@ -185,10 +191,12 @@ fn accepted(random: &mut Random, call: Call) -> (Case, usize) {
 
 /// Cases by chance, without end: for each world every call that changes no run on its
 /// sheets as they are and on damaged ones, for first paths on two, and for each tenth a
-/// puzzle for Pi.  The query has sheets, and random numbers, of its own.
+/// puzzle for Pi.  The query has sheets, and random numbers, of its own, and so has the
+/// composing call.
 pub struct Chance {
     random: Random,
     of_query: Random,
+    of_compose: Random,
     worlds: u64,
     waiting: Vec<Case>,
 }
@@ -196,8 +204,9 @@ pub struct Chance {
 impl Chance {
     /// The cases of a seed.
     pub fn seeded(seed: u64) -> Self {
-        let [random, of_query] = [seed, !seed].map(Random::seeded);
-        Chance { random, of_query, worlds: 0, waiting: Vec::new() }
+        let seeds = [seed, !seed, seed.rotate_left(32)];
+        let [random, of_query, of_compose] = seeds.map(Random::seeded);
+        Chance { random, of_query, of_compose, worlds: 0, waiting: Vec::new() }
     }
 
     /// All cases of the next world.
@@ -212,7 +221,7 @@ impl Chance {
             let tray = some_tray(random, &puzzle);
             cases.push(puzzle.with_tray(tray));
         }
-        for call in not_changes().filter(|&call| call != Call::Query) {
+        for call in others().filter(|&call| call != Call::Query) {
             for lent in world.lent_each(random, call) {
                 cases.extend(whole_and_damaged(random, self.worlds, call, &lent));
             }
@@ -220,6 +229,9 @@ impl Chance {
         let random = &mut self.of_query;
         let lent = any_lent_dig(random, generators).lent();
         cases.extend(whole_and_damaged(random, self.worlds, Call::Query, &lent));
+        let random = &mut self.of_compose;
+        let lent = Composable::any(random, 2).lent();
+        cases.extend(whole_and_damaged(random, self.worlds, Call::Compose, &lent));
         cases
     }
 }

@@ -2,6 +2,7 @@
 //! a run, a book, and lists of both sides.
 
 use crate::call::{Call, Kind};
+use crate::composable::Composable;
 use crate::digs::any_dig;
 use crate::even::{copies, even_mapping};
 use crate::instances::{beside, instance, no_rows, shuffled};
@@ -162,7 +163,7 @@ impl World {
     }
 
     /// What a call is lent.  The calls with one schema are lent S or T, those with
-    /// paths mostly another; the query is lent sheets of its own.
+    /// paths mostly another; the query and the composing call are lent sheets of their own.
     pub fn lent(&self, random: &mut Random, call: Call) -> Vec<Sheet> {
         let World { mapped: Mapped { s, t, f }, run, book, pushed, raw } = self;
         let list = match call {
@@ -179,6 +180,7 @@ impl World {
             Call::FirstPath => self.question(random).lent_in_turn()[0].clone(),
             Call::PathChain => self.question(random).lent(),
             Call::Query => any_dig(random, 3).lent(),
+            Call::Compose => Composable::any(random, 2).lent(),
             _ => {
                 let of_kind = |place: usize| match (place, call.sheets()[place]) {
                     (0, _) => Sheet::Schema(s.clone()),

@@ -9,6 +9,7 @@ use std::sync::OnceLock;
 use vectors::answer::{reference_outcome, Outcome};
 use vectors::call::{Call, Case, Kind};
 use vectors::change_refusals;
+use vectors::composition_refusals;
 use vectors::even::is_even;
 use vectors::mappings::Mapped;
 use vectors::random::Random;
@@ -49,6 +50,8 @@ fn numbers_of_no_sheet(call: Call) -> &'static [u8] {
         // "15 where the run would pass 512 rows", "18, absent", "19, still held"
         Call::AddRow => &[12, 15, 16, 18],
         Call::WithdrawRow => &[12, 16, 18, 19],
+        // No rows, and no evenness.
+        Call::Compose => &[16],
     }
 }
 
@@ -93,14 +96,16 @@ fn every_call_ends_in_every_way_that_it_can_and_in_no_other() {
     for (call, end) in report.met() {
         assert!(can_occur(call).contains(&end), "{} ends {end}", call.name());
     }
-    assert_eq!(Call::ALL.map(|call| can_occur(call).len()).iter().sum::<usize>(), 385);
+    assert_eq!(Call::ALL.map(|call| can_occur(call).len()).iter().sum::<usize>(), 413);
 }
 
 #[test]
 fn what_is_made_for_a_refusal_meets_it() {
     for seed in [1, 2, 3] {
-        let of_changes = change_refusals::for_each_refusal(&mut Random::seeded(seed));
-        for made in for_each_refusal(&mut Random::seeded(seed)).into_iter().chain(of_changes) {
+        let others = change_refusals::for_each_refusal(&mut Random::seeded(seed)).into_iter();
+        let others =
+            others.chain(composition_refusals::for_each_refusal(&mut Random::seeded(seed)));
+        for made in for_each_refusal(&mut Random::seeded(seed)).into_iter().chain(others) {
             let Outcome { answer, tray, run } = reference_outcome(&made.case);
             assert_eq!(answer, Err(made.refusal), "{} {}", made.case.call.name(), made.case.name);
             assert!(tray.iter().all(|&byte| byte == vectors::answer::FILLING));
@@ -173,7 +178,9 @@ struct Opened {
 
 impl Opened {
     fn of(case: &'static Case, outcome: &'static Outcome) -> Option<Self> {
-        let one_mapping = (4..8).contains(&case.sheets.len()) && !case.call.is_change();
+        let mappings =
+            case.call.sheets().iter().filter(|kind| matches!(kind, Kind::Mapping { .. }));
+        let one_mapping = mappings.count() == 1 && case.sheets.len() > 3 && !case.call.is_change();
         if outcome.answer.is_err() || !one_mapping {
             return None;
         }

@@ -3,8 +3,10 @@
 
 #![allow(dead_code, unused_imports)]
 
+mod compositions;
 mod trays;
 
+pub use compositions::*;
 use reference::paths::all_paths;
 use reference::plain::*;
 use reference::{first_path, path_chain, Refusal};
@@ -89,7 +91,12 @@ pub fn written(steps: &[Numbers]) -> Vec<u8> {
     for [equation, direction, before] in steps {
         bits += &format!("{equation:05b}{direction:01b}{before:04b}");
     }
-    while bits.len() % 8 != 0 {
+    bytes(bits)
+}
+
+/// The bytes of a text of bits, the last one filled with 0 bits.
+pub fn bytes(mut bits: String) -> Vec<u8> {
+    while !bits.len().is_multiple_of(8) {
         bits.push('0');
     }
     let byte = |at: usize| u8::from_str_radix(&bits[at..at + 8], 2).unwrap();

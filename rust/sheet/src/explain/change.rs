@@ -3,11 +3,12 @@
 
 use super::{fault_cause, instance, Cause};
 use crate::bits::counted;
+use crate::call::Role;
 use crate::change::{Change, ChangedRow};
 use crate::instance::{Instance, Row};
 use crate::lent::Lent;
 use crate::names::listed;
-use crate::question::{Answer, Question, Role};
+use crate::question::{Answer, Question};
 use crate::schema::Schema;
 
 pub(super) fn causes(question: &Question, number: u8) -> Option<Vec<Cause>> {

@@ -22,7 +22,7 @@ pub(super) fn causes(question: &Question) -> Option<Vec<Cause>> {
         lent: question.mapping.as_ref()?,
         s_file: &s.lent.file,
         t_lent: t,
-        names: question.schema_names(),
+        names: question.schema_names,
     };
     let mut causes = Vec::new();
     for node in 0..s_schema.nodes.len() {

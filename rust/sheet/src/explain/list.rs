@@ -3,10 +3,11 @@
 
 use super::{fault_cause, Cause};
 use crate::bits::counted;
+use crate::call::Role;
 use crate::instance::Instance;
 use crate::lent::Lent;
 use crate::matching::Matching;
-use crate::question::{Question, Role};
+use crate::question::Question;
 use crate::schema::Schema;
 use crate::text::TextError;
 

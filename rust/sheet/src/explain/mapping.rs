@@ -19,7 +19,7 @@ pub(super) fn causes(question: &Question, number: u8) -> Option<Vec<Cause>> {
     };
     match number {
         7 => {
-            let [_, t_name] = question.schema_names();
+            let [_, t_name] = question.schema_names;
             Some(Misfit { s, t, mapping: &mapping, lent, t_name }.causes())
         }
         8 => broken_rules(question, &mapping),
@@ -126,7 +126,7 @@ fn broken_rules(question: &Question, mapping: &Mapping) -> Option<Vec<Cause>> {
     let (s, t) = (question.s.as_ref()?, question.t.as_ref()?);
     let (s_schema, t_schema) = (question.s_schema()?, question.t_schema()?);
     let t_classes = Classes::of(t_schema, &t.lent.sheet)?;
-    let [_, of] = question.schema_names();
+    let [_, of] = question.schema_names;
     let mut causes = Vec::new();
     for (number, equation) in s_schema.equations.iter().enumerate() {
         let images = [&equation.left, &equation.right].map(|side| mapping.path_image(side));

@@ -15,9 +15,11 @@ mod pi;
 mod schema;
 
 use crate::bits::{counted, Fault};
+use crate::call::{Call, Role};
+use crate::compose::SCHEMA_NAMES_OF_G;
 use crate::lent::Lent;
 use crate::query::Stage;
-use crate::question::{Answer, Call, Question, Role};
+use crate::question::{Answer, Question};
 use migration::Refusal;
 use std::fmt;
 
@@ -61,6 +63,9 @@ pub struct Explanation {
     pub sheet: Option<(&'static str, String)>,
     /// The stage of a query that is refused at place 0; none of its tray.
     pub stage: Option<Stage>,
+    /// What the schemas are called that the call's mapping, or the refused one of several,
+    /// goes from and to.
+    pub schema_names: [&'static str; 2],
     /// The causes that were found, the first one first.
     pub causes: Vec<Cause>,
 }
@@ -80,7 +85,7 @@ impl fmt::Display for Explanation {
         }
         if self.causes.is_empty() {
             let place = self.sheet.as_ref().map_or(self.call.name(), |(_, file)| file);
-            writeln!(out, "{place}: {} {tag}", refusal.sentence())?;
+            writeln!(out, "{place}: {} {tag}", self.sentence())?;
         }
         if self.causes.len() > MOST_SHOWN {
             writeln!(out, "and {} more like these", self.causes.len() - MOST_SHOWN)?;
@@ -95,11 +100,28 @@ impl fmt::Display for Explanation {
         if let Some(stage) = self.stage {
             write!(out, " ({stage})")?;
         }
-        writeln!(out, ": {}", refusal.sentence())?;
+        writeln!(out, ": {}", self.sentence())?;
         match self.causes.first().and_then(|cause| cause.mend.as_ref()) {
             Some(mend) => writeln!(out, "mend: {mend}"),
             None => Ok(()),
         }
+    }
+}
+
+impl Explanation {
+    /// The refusal's sentence, with the names of the schemas in the place of S and T.
+    fn sentence(&self) -> String {
+        let [s, t] = self.schema_names;
+        let named = |word: &'static str| match word {
+            "S" => s,
+            "T" => t,
+            _ => word,
+        };
+        let words = self.refusal.sentence().split(' ').map(|word| match word.strip_suffix(',') {
+            Some(word) => format!("{},", named(word)),
+            None => named(word).to_string(),
+        });
+        words.collect::<Vec<_>>().join(" ")
     }
 }
 
@@ -121,13 +143,21 @@ impl Question {
             (None, None) => self.causes_of_all(refusal.number),
         };
         let causes = causes.unwrap_or_default();
-        Explanation { refusal, call: self.call, sheet, stage, causes }
+        let schema_names = match role {
+            Some(Role::G) => SCHEMA_NAMES_OF_G,
+            Some(Role::Along(stage)) => stage.schema_names(),
+            _ => self.schema_names,
+        };
+        Explanation { refusal, call: self.call, sheet, stage, schema_names, causes }
     }
 
     fn causes_at(&self, role: Role, number: u8) -> Option<Vec<Cause>> {
         Some(match role {
-            Role::S | Role::T | Role::Schema(_) => schema::causes(self.lent_schema(role)?, number),
+            Role::S | Role::T | Role::U | Role::Schema(_) => {
+                schema::causes(self.lent_schema(role)?, number)
+            }
             Role::Mapping => mapping::causes(self, number)?,
+            Role::G => mapping::causes(&self.second_mapping(), number)?,
             Role::Along(stage) => mapping::causes(&self.at_stage(stage), number)?,
             Role::Run => {
                 let over = self.lent_schema(self.call.run_schema())?;
@@ -174,6 +204,9 @@ fn role_name(call: Call, role: Role) -> &'static str {
         (_, Role::S) => "schema S",
         (Call::CheckInstance, Role::Run) => "the instance",
         (_, Role::T) => "schema T",
+        (_, Role::U) => "schema U",
+        (Call::Compose, Role::Mapping) => "mapping F",
+        (_, Role::G) => "mapping G",
         (_, Role::Mapping) => "the mapping",
         (_, Role::Run) => "the run",
         (_, Role::Book) => "the book",

@@ -3,10 +3,11 @@
 use super::pi::chosen_components;
 use super::Cause;
 use crate::bits::counted;
+use crate::call::Call;
 use crate::classes::Classes;
 use crate::instance::Instance;
 use crate::query::Stage;
-use crate::question::{Call, Question};
+use crate::question::Question;
 
 /// Sigma has as many rows as the run; so it is Delta's result or Pi's.
 pub(super) fn causes(question: &Question) -> Option<Vec<Cause>> {

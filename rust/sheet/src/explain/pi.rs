@@ -14,7 +14,7 @@ const MOST_COMPONENTS: usize = 64;
 pub(super) fn unpaired(question: &Question) -> Option<Vec<Cause>> {
     let (s, t) = (question.s_schema()?, question.t_schema()?);
     let (mapping, lent) = (question.mapping_decoded()?, question.mapping.as_ref()?);
-    let [s_name, t_name] = question.schema_names();
+    let [s_name, t_name] = question.schema_names;
     let mut causes = Vec::new();
     for column in 0..t.columns.len() {
         let wanted = t.column_name(column);
@@ -44,7 +44,7 @@ pub(super) fn wide(question: &Question) -> Option<Vec<Cause>> {
     let mapping = question.mapping_decoded()?;
     let classes = Classes::of(t, &question.t.as_ref()?.lent.sheet)?;
     let file = &question.mapping.as_ref()?.file;
-    let [s_name, t_name] = question.schema_names();
+    let [s_name, t_name] = question.schema_names;
     let mut causes = Vec::new();
     for node in 0..t.nodes.len() {
         let count = components(t, &mapping, &classes, node).len();

@@ -191,6 +191,12 @@ pub const DIG_SCHEMAS: &str = "vendor.schema needed.schema joined.schema digs.sc
 pub const DIG_MAPPINGS: &str =
     "needed-to-vendor.mapping needed-to-joined.mapping joined-to-digs.mapping";
 
+/// S, T and U of the exchange example.
+pub const EXCHANGE_SCHEMAS: &str = "vendor.schema exchange.schema operator.schema";
+
+/// F and G of the exchange example.
+pub const EXCHANGE_MAPPINGS: &str = "vendor-to-exchange.mapping exchange-to-operator.mapping";
+
 /// Document 01's case 7, with a link before a and one after f.
 pub const RULED: [&str; 15] = [
     "node S",
@@ -209,6 +215,14 @@ pub const RULED: [&str; 15] = [
     "link E.g -> G",
     "equation A.a.b = A.c.d",
 ];
+
+/// The sentence of 7 about a mapping to a schema.
+pub fn misfit(to: &str) -> String {
+    format!(
+        "an image is missing in {to}, does not join, has the wrong end, or an attribute's image \
+         has another kind or sits at another node than its node's image"
+    )
+}
 
 /// Facts, one a line.
 pub fn lines(facts: &[&str]) -> String {

@@ -3,7 +3,7 @@
 use crate::arguments::Arguments;
 use crate::failure::Failure;
 use crate::input::{is_standard_input, Inputs};
-use sheet::{Answer, Call, Question, Role, Schema};
+use sheet::{Answer, Call, Lent, Question, Role, Schema};
 
 /// Loads what a call is lent, in the order of its places, and asks the call.
 pub fn ask(
@@ -98,38 +98,42 @@ fn lend(
     inputs: &mut Inputs,
 ) -> Result<(), Failure> {
     match role {
-        Role::S | Role::T | Role::Schema(_) => {
+        Role::S | Role::T | Role::U | Role::Schema(_) => {
             question.lend_schema(role, inputs.schema(word)?);
             schema(question, role)?;
         }
         Role::Mapping => {
-            let (s, t) = (schema(question, Role::S)?, schema(question, Role::T)?);
-            question.mapping = Some(inputs.mapping(word, s, t)?);
+            question.mapping = Some(mapping(question, [Role::S, Role::T], word, inputs)?);
         }
+        Role::G => question.g = Some(mapping(question, [Role::T, Role::U], word, inputs)?),
         Role::Run => {
             let over = schema(question, question.call.run_schema())?;
             question.run = Some(inputs.instance(word, over)?);
         }
-        Role::Book => {
-            question.book = Some(inputs.instance(word, schema(question, Role::T)?)?);
-        }
-        Role::P => {
-            question.p = Some(inputs.path(word, schema(question, Role::S)?)?);
-        }
-        Role::Q => {
-            question.q = Some(inputs.path(word, schema(question, Role::S)?)?);
-        }
+        Role::Book => question.book = Some(inputs.instance(word, schema(question, Role::T)?)?),
+        Role::P => question.p = Some(inputs.path(word, schema(question, Role::S)?)?),
+        Role::Q => question.q = Some(inputs.path(word, schema(question, Role::S)?)?),
         Role::List => {
             let over = if question.call.is_pushed() { Role::T } else { Role::S };
             question.list = Some(inputs.matching(word, schema(question, over)?)?);
         }
         Role::Along(stage) => {
-            let [from, to] = stage.schemas().map(Role::Schema);
-            let (from, to) = (schema(question, from)?, schema(question, to)?);
-            question.route.mappings[stage as usize] = Some(inputs.mapping(word, from, to)?);
+            let between = stage.schemas().map(Role::Schema);
+            let lent = mapping(question, between, word, inputs)?;
+            question.route.mappings[stage as usize] = Some(lent);
         }
     }
     Ok(())
+}
+
+/// The mapping in a file, between the schemas with two roles.
+fn mapping(
+    question: &Question,
+    [from, to]: [Role; 2],
+    word: &str,
+    inputs: &mut Inputs,
+) -> Result<Lent, Failure> {
+    inputs.mapping(word, schema(question, from)?, schema(question, to)?)
 }
 
 /// The schema with a role; where its sheet cannot be decoded, the call's
@@ -152,6 +156,9 @@ fn word_for(call: Call, role: Role) -> &'static str {
         (_, Role::S) => "S",
         (Call::CheckInstance, Role::Run) => "INSTANCE",
         (_, Role::T) => "T",
+        (_, Role::U) => "U",
+        (Call::Compose, Role::Mapping) => "F",
+        (_, Role::G) => "G",
         (_, Role::Mapping) => "MAPPING",
         (_, Role::Run) => "RUN",
         (_, Role::Book) => "BOOK",

@@ -27,6 +27,7 @@ fn text(command: &str) -> Option<&'static str> {
         "sigma" => SIGMA,
         "pi" => PI,
         "query" => QUERY,
+        "compose" => COMPOSE,
         "add-row" => ADD_ROW,
         "withdraw-row" => WITHDRAW_ROW,
         "match" => MATCH,
@@ -52,6 +53,7 @@ sheet: inspection run records from text and CSV to the proved calls and back
   sheet sigma S T MAPPING RUN                          push a run, tables joined
   sheet pi S T MAPPING RUN                             push a run, rows fitted
   sheet query S1 S2 S3 S4 F G H RUN                    project, join, unite
+  sheet compose S T U F G                              two mappings as one
   sheet add-row S T MAPPING RUN TABLE NAME=VALUE ..    add a row to a run
   sheet withdraw-row S T MAPPING RUN TABLE ROW         take a row out of a run
   sheet match pushed|raw S T MAPPING RUN BOOK LIST     check a list of partners
@@ -187,6 +189,25 @@ that finds several is in several.
 Example: sheet query vendor.schema needed.schema joined.schema digs.schema \\
              needed-to-vendor.mapping needed-to-joined.mapping \\
              joined-to-digs.mapping run -o digs
+";
+
+const COMPOSE: &str = "\
+sheet compose S T U F G
+
+Writes the mapping that F and then G make, as one: F goes from S to T, G from T to
+U, the result from S to U. Each table and column goes to its image's image, each
+link to the images of its image's links, joined as they are. To pull a book back
+along the result by delta is to pull it back along G and then along F.
+
+The text has the names of S on the left and those of U on the right, table by
+table in the order of S. It has no comments; those of F and G stay with them.
+
+  -o FILE       write to FILE, a sheet if FILE ends in .sheet
+  --force       replace FILE if it exists
+  --tray BYTES  lend the call a tray of BYTES (refusal 16 if it is too small)
+
+Example: sheet compose vendor.schema exchange.schema operator.schema \\
+             vendor-to-exchange.mapping exchange-to-operator.mapping
 ";
 
 const ADD_ROW: &str = "\

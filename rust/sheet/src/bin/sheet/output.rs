@@ -1,5 +1,6 @@
 //! Writing results: to standard output, or whole to files.
 
+use crate::arguments::Arguments;
 use crate::failure::Failure;
 use crate::input::Form;
 use crate::staged::{place_all, Staged};
@@ -62,6 +63,20 @@ pub enum Ready {
     Print(Vec<u8>),
     /// To a file or folder, beside which it is written.
     Place(Staged),
+}
+
+/// Writes a sheet, or the text that it is, to standard output or a file.
+pub fn write(
+    arguments: &Arguments,
+    sheet: &[u8],
+    text: impl FnOnce() -> Result<String, Failure>,
+) -> Result<(), Failure> {
+    match Target::of(arguments.output.as_deref()) {
+        Target::Print => print(&text()?),
+        Target::PrintSheet => print_bytes(sheet),
+        Target::Sheet(path) => write_file(&path, sheet, arguments.force),
+        Target::Text(path) => write_file(&path, text()?.as_bytes(), arguments.force),
+    }
 }
 
 /// Writes a file whole or not at all: beside it first, then renamed.  An

@@ -3,7 +3,7 @@
 use crate::arguments::Arguments;
 use crate::ask::{ask, decoded, schema};
 use crate::failure::Failure;
-use crate::output::{self, Target};
+use crate::output;
 use sheet::{Answer, Call, Path, Role, Schema};
 
 /// The first path that is equal to a path.
@@ -17,13 +17,7 @@ pub fn run(arguments: &Arguments, words: &[String]) -> Result<(), Failure> {
 
 /// Writes a path: a line of text to standard output or a file, or a sheet.
 pub fn write(arguments: &Arguments, schema: &Schema, sheet: &[u8]) -> Result<(), Failure> {
-    let line = || -> Result<String, Failure> {
+    output::write(arguments, sheet, || {
         Ok(decoded("the path", Path::from_sheet(sheet))?.text(schema) + "\n")
-    };
-    match Target::of(arguments.output.as_deref()) {
-        Target::Print => output::print(&line()?),
-        Target::PrintSheet => output::print_bytes(sheet),
-        Target::Sheet(path) => output::write_file(&path, sheet, arguments.force),
-        Target::Text(path) => output::write_file(&path, line()?.as_bytes(), arguments.force),
-    }
+    })
 }

@@ -1,6 +1,7 @@
 //! The commands.
 
 mod check;
+mod compose;
 mod draw;
 mod first_path;
 mod matching;
@@ -31,7 +32,7 @@ const TRAYS: &[&str] = &["--output", "--force", "--tray"];
 
 const CHANGES: &[&str] = &["--output", "--force", "--tray", "--pushed"];
 
-const COMMANDS: [Command; 16] = [
+const COMMANDS: [Command; 17] = [
     Command {
         name: "pack",
         options: &["--output", "--force", "--hex", "--unchecked"],
@@ -43,6 +44,7 @@ const COMMANDS: [Command; 16] = [
     Command { name: "sigma", options: TRAYS, run: migrate::sigma },
     Command { name: "pi", options: TRAYS, run: migrate::pi },
     Command { name: "query", options: TRAYS, run: migrate::query },
+    Command { name: "compose", options: TRAYS, run: compose::run },
     Command { name: "add-row", options: CHANGES, run: rows::add },
     Command { name: "withdraw-row", options: CHANGES, run: rows::withdraw },
     Command { name: "match", options: &[], run: matching::check },
