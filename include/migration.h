@@ -14,10 +14,9 @@
  *   matching    for each row, tables in order, the row of its partner 9
  *   chain       steps 8; each step: equation 5, direction 1 (0 left side to right, 1 back), edges before the replaced part 4, counted in
  *               the path as it stands before that step
- *   kinds       for each kind, 0 to 15, its smallest value 32 and its largest 32; always 128 bytes
  * Everything is numbered from 0. The tool `sheet` makes sheets from readable text (docs/sheet/commands.md).
  *
- * The kinds of attributes, each with its smallest and its largest value in the built-in list:
+ * The kinds of attributes, each with its smallest and its largest value:
  *    0 plain                          0 to 4294967295         8 pressure in kPa              0 to 25000
  *    1 station in mm                  0 to 4294967295         9 temperature in 0.1 K         0 to 4000
  *    2 clock in minutes               1 to 720               10 day                          0 to 65535
@@ -27,7 +26,6 @@
  *    6 wall in 0.01 mm                0 to 5000              14 flag                         0 to 1
  *    7 diameter in mm                 0 to 1600              15 unused                       0 to 0
  * On a clock 720 is twelve o'clock, 14 is 12:14, and 0 is off scale.
- * The calls whose names end in _with_kinds are lent a kinds sheet in place of this list; every other call judges by this list.
  *
  * A pointer may be null only where its length is 0. Two lent byte strings may overlap, unless one of them is a tray.
  *
@@ -54,7 +52,6 @@ extern "C" {
  *   mapping     1, 2, 7, 8
  *   instance    1 inside the row counts, 3, 1 in the rest, 2, 9, 10, 11
  *   path        1, 2, 4
- *   kinds       1, 2, 20
  * Then come the conditions of all sheets together, at place 0: 12, 13, 14, 15, of migration_query 13, 14, 12, 15; then a list of partners:
  * 1, 2, 17; last, at place 0, 16. Of a change 12 is followed by the tests of the change itself, all at place 0: of an added row 18, then of its
  * sheet 1, 2, 9, 10, 11, then 15; of a row to be withdrawn 18, 19; last 16.
@@ -78,23 +75,21 @@ enum {
     MIGRATION_SMALL_TRAY = 16,  /* the result, of a change either result, needs more bytes than were lent */
     MIGRATION_NO_MATCH = 17,    /* the list is not a matching */
     MIGRATION_ABSENT = 18,      /* the table, or the row, that a change names does not exist */
-    MIGRATION_STILL_HELD = 19,  /* a link of another row leads to the row that is to be withdrawn */
-    MIGRATION_BAD_KINDS = 20    /* a kind's smallest value is above its largest, or kind 15 is not 0 to 0 */
+    MIGRATION_STILL_HELD = 19   /* a link of another row leads to the row that is to be withdrawn */
 };
 
 /* A tray of this many bytes holds every instance sheet, of this many every matching sheet, of this many every path sheet, of this many every
- * chain sheet, and of this many every mapping sheet. A kinds sheet has just this many bytes. */
+ * chain sheet, and of this many every mapping sheet. */
 enum {
     MIGRATION_INSTANCE_BYTES = 51220,
     MIGRATION_MATCHING_BYTES = 576,
     MIGRATION_PATH_BYTES = 11,
     MIGRATION_CHAIN_BYTES = 320,
-    MIGRATION_MAPPING_BYTES = 332,
-    MIGRATION_KINDS_BYTES = 128
+    MIGRATION_MAPPING_BYTES = 332
 };
 
 /* The calls have their working arrays on the stack. A call needs at most so many bytes of it, whatever it is lent, below the frame that makes it;
- * a thread that makes the call needs them besides what its own code needs. A call that is lent a kinds sheet has the number of its first form, but for Pi. */
+ * a thread that makes the call needs them besides what its own code needs. */
 enum {
     MIGRATION_STACK_CHECK_SCHEMA = 16384,
     MIGRATION_STACK_CHECK_MAPPING = 24576,
@@ -104,10 +99,9 @@ enum {
     MIGRATION_STACK_DELTA = 253952,
     MIGRATION_STACK_SIGMA = 262144,
     MIGRATION_STACK_PI = 524288,
-    MIGRATION_STACK_PI_WITH_KINDS = 548864,
     MIGRATION_STACK_QUERY = 688128,
     MIGRATION_STACK_COMPOSE = 40960,
-    MIGRATION_STACK_MATCHINGS = 401408, /* each of the calls with a list of partners */
+    MIGRATION_STACK_MATCHINGS = 401408, /* each of the four calls with a list of partners */
     MIGRATION_STACK_CHANGES = 258048    /* each of the two calls that change a run */
 };
 
@@ -244,47 +238,6 @@ uint64_t migration_pushed_to_raw(const uint8_t *s, size_t s_len, const uint8_t *
 uint64_t migration_raw_to_pushed(const uint8_t *s, size_t s_len, const uint8_t *t, size_t t_len, const uint8_t *f, size_t f_len,
                                  const uint8_t *run, size_t run_len, const uint8_t *book, size_t book_len,
                                  const uint8_t *list, size_t list_len, uint8_t *tray, size_t tray_len);
-
-/* The operator's own kinds: the second forms of seven calls. A second form is lent a kinds sheet (place 1), then what its first form is lent, each
- * sheet at a place one more than there; place 0 stays 0. The kinds sheet is judged before all others: 1, 2, 20. From there on the second form means
- * what the first means, with the ranges of the sheet in 10: it gives the same results, and the same refusals with the places moved. Lent the
- * built-in list as a sheet, it answers as its first form, but for the places.
- * A result may have values that the built-in list does not allow: a call that is lent it next is lent the kinds sheet too.
- */
-
-/* Delta by the operator's own kinds. At place 0: 15, 16. */
-uint64_t migration_delta_with_kinds(const uint8_t *kinds, size_t kinds_len, const uint8_t *s, size_t s_len, const uint8_t *t, size_t t_len,
-                                    const uint8_t *f, size_t f_len, const uint8_t *j, size_t j_len, uint8_t *tray, size_t tray_len);
-
-/* Sigma by the operator's own kinds. At place 0: 12, 16. */
-uint64_t migration_sigma_with_kinds(const uint8_t *kinds, size_t kinds_len, const uint8_t *s, size_t s_len, const uint8_t *t, size_t t_len,
-                                    const uint8_t *f, size_t f_len, const uint8_t *i, size_t i_len, uint8_t *tray, size_t tray_len);
-
-/* Pi by the operator's own kinds. At place 0: 13, 14, 15, 16. What is said of the time of migration_pi holds of it too. */
-uint64_t migration_pi_with_kinds(const uint8_t *kinds, size_t kinds_len, const uint8_t *s, size_t s_len, const uint8_t *t, size_t t_len,
-                                 const uint8_t *f, size_t f_len, const uint8_t *i, size_t i_len, uint8_t *tray, size_t tray_len);
-
-/* The checker of the pushed side by the operator's own kinds: run and book at places 5 and 6, the list at place 7. At place 0: 12, 15. */
-uint64_t migration_check_pushed_with_kinds(const uint8_t *kinds, size_t kinds_len, const uint8_t *s, size_t s_len,
-                                           const uint8_t *t, size_t t_len, const uint8_t *f, size_t f_len, const uint8_t *run, size_t run_len,
-                                           const uint8_t *book, size_t book_len, const uint8_t *list, size_t list_len);
-
-/* The checker of the raw side by the operator's own kinds. */
-uint64_t migration_check_raw_with_kinds(const uint8_t *kinds, size_t kinds_len, const uint8_t *s, size_t s_len,
-                                        const uint8_t *t, size_t t_len, const uint8_t *f, size_t f_len, const uint8_t *run, size_t run_len,
-                                        const uint8_t *book, size_t book_len, const uint8_t *list, size_t list_len);
-
-/* The turning from the pushed side to the raw side by the operator's own kinds; last 16 at place 0. */
-uint64_t migration_pushed_to_raw_with_kinds(const uint8_t *kinds, size_t kinds_len, const uint8_t *s, size_t s_len,
-                                            const uint8_t *t, size_t t_len, const uint8_t *f, size_t f_len, const uint8_t *run, size_t run_len,
-                                            const uint8_t *book, size_t book_len, const uint8_t *list, size_t list_len,
-                                            uint8_t *tray, size_t tray_len);
-
-/* The turning from the raw side to the pushed side by the operator's own kinds; last 16 at place 0. */
-uint64_t migration_raw_to_pushed_with_kinds(const uint8_t *kinds, size_t kinds_len, const uint8_t *s, size_t s_len,
-                                            const uint8_t *t, size_t t_len, const uint8_t *f, size_t f_len, const uint8_t *run, size_t run_len,
-                                            const uint8_t *book, size_t book_len, const uint8_t *list, size_t list_len,
-                                            uint8_t *tray, size_t tray_len);
 
 #ifdef __cplusplus
 }

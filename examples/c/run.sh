@@ -6,7 +6,7 @@ cd "$(dirname "${BASH_SOURCE[0]}")/../.."
 .ci/archive
 out=target/examples
 mkdir -p "$out"
-for name in push_base pull_base change_base turn_base query_dig compose_base own_kinds first_path why_equal; do
+for name in push_base pull_base change_base turn_base query_dig compose_base first_path why_equal; do
     cc -std=c99 -Wall -Wextra -Werror -O2 -Iinclude "examples/c/$name.c" target/staticlib/libmigration.a -o "$out/$name"
     "$out/$name" | diff -u "examples/c/$name.expected" -
 done

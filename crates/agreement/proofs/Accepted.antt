@@ -5,11 +5,11 @@ use mathlib.Core.Bool.{Bool, true, false}
 use mathlib.Core.List.{List}
 use lib.Dec.{leb}
 use borrow.Author.Tests.{leb-true, le-leb}
+use Rattle.meaning.specs.Category.{listed_category}
 use Rattle.meaning.specs.Lists.{sum_of}
 use Rattle.meaning.specs.Sheet.{Judged, faulty, sound}
-use Rattle.meaning.specs.Formats.{Instance, Kinds, kinds, max_rows}
-use Rattle.meaning.specs.Judge.{judge_instance}
-use Rattle.meaning.specs.SchemaKinds.{SchemaKind, judge_mapping, listed}
+use Rattle.meaning.specs.Formats.{Instance, max_rows}
+use Rattle.meaning.specs.Judge.{judge_schema, judge_mapping, judge_instance}
 use Rattle.meaning.specs.Delta.{delta}
 use Rattle.meaning.specs.Evenness.{even}
 use Rattle.meaning.specs.Sigma.{sigma}
@@ -46,116 +46,116 @@ fits-accepted J k {b} e = go (leb (sum_of J.counts) max_rows) refl e
     go false d e = absurd (refused-not-accepted e)
 
 -- ---- S, T and a mapping
-pub record MigrationSound (K : SchemaKind) (s t f : List ℕ) (m : Migration) : Type 0 where
-  pub s_sound : K.judge_category s ≡ sound m.S
-  pub t_sound : K.judge_category t ≡ sound m.T
-  pub f_sound : judge_mapping K m.S m.T f ≡ sound m.F
+pub record MigrationSound (s t f : List ℕ) (m : Migration) : Type 0 where
+  pub s_sound : judge_schema s ≡ sound m.S
+  pub t_sound : judge_schema t ≡ sound m.T
+  pub f_sound : judge_mapping (listed_category m.S) (listed_category m.T) f ≡ sound m.F
 
-module _ (K : SchemaKind) (s t f : List ℕ) where
-  pub migration-accepted : {m : Migration} → migration K s t f ≡ accepted m → MigrationSound K s t f m
+module _ (s t f : List ℕ) where
+  pub migration-accepted : {m : Migration} → migration s t f ≡ accepted m → MigrationSound s t f m
   migration-accepted {m} e =
-      let a = sheet-accepted 1 (K.judge_category s) _ e in
-      let b = sheet-accepted 2 (K.judge_category t) _ a.2 in
-      let c = sheet-accepted 3 (judge_mapping K a.0 b.0 f) _ b.2 in
-      subst (MigrationSound K s t f) (accepted-same c.2) (record { s_sound = a.1; t_sound = b.1; f_sound = c.1 })
+      let a = sheet-accepted 1 (judge_schema s) _ e in
+      let b = sheet-accepted 2 (judge_schema t) _ a.2 in
+      let c = sheet-accepted 3 (judge_mapping (listed_category a.0) (listed_category b.0) f) _ b.2 in
+      subst (MigrationSound s t f) (accepted-same c.2) (record { s_sound = a.1; t_sound = b.1; f_sound = c.1 })
 
-  pub migration-accepts : {m : Migration} → MigrationSound K s t f m → migration K s t f ≡ accepted m
+  pub migration-accepts : {m : Migration} → MigrationSound s t f m → migration s t f ≡ accepted m
   migration-accepts h = rw (h.s_sound, h.t_sound, h.f_sound)
 
 -- ---- the three migrations
-pub record DeltaSound (K : SchemaKind) (ks : Kinds) (s t f j : List ℕ) (m : Migration) (J : Instance) : Type 0 where
-  pub migration_sound : MigrationSound K s t f m
-  pub j_sound : judge_instance ks m.T.schema j ≡ sound J
-  pub fits : sum_of (delta m.S.schema m.F J).counts ≤ max_rows
+pub record DeltaSound (s t f j : List ℕ) (m : Migration) (J : Instance) : Type 0 where
+  pub migration_sound : MigrationSound s t f m
+  pub j_sound : judge_instance m.T j ≡ sound J
+  pub fits : sum_of (delta m.S m.F J).counts ≤ max_rows
 
 abbrev pub delta_result : Migration → Instance → Migrated
-delta_result m J = record { schema = m.S.schema; tables = delta m.S.schema m.F J }
+delta_result m J = record { schema = m.S; tables = delta m.S m.F J }
 
-module _ (K : SchemaKind) (ks : Kinds) (s t f j : List ℕ) where
-  pub delta-accepted : {D : Migrated} → delta_tables K ks s t f j ≡ accepted D → (m : Migration) × (J : Instance) × DeltaSound K ks s t f j m J × (D ≡ delta_result m J)
+module _ (s t f j : List ℕ) where
+  pub delta-accepted : {D : Migrated} → delta_tables s t f j ≡ accepted D → (m : Migration) × (J : Instance) × DeltaSound s t f j m J × (D ≡ delta_result m J)
   delta-accepted e =
-      let a = bind-accepted (migration K s t f) _ e in
+      let a = bind-accepted (migration s t f) _ e in
       let m = a.0 in
-      let b = sheet-accepted 4 (judge_instance ks m.T.schema j) _ a.2 in
-      let c = fits-accepted (delta m.S.schema m.F b.0) _ b.2 in
-      (m, b.0, record { migration_sound = migration-accepted K s t f a.1; j_sound = b.1; fits = c.0 }, sym (accepted-same c.1))
+      let b = sheet-accepted 4 (judge_instance m.T j) _ a.2 in
+      let c = fits-accepted (delta m.S m.F b.0) _ b.2 in
+      (m, b.0, record { migration_sound = migration-accepted s t f a.1; j_sound = b.1; fits = c.0 }, sym (accepted-same c.1))
 
-  pub delta-accepts : {m : Migration} {J : Instance} → DeltaSound K ks s t f j m J → delta_tables K ks s t f j ≡ accepted (delta_result m J)
-  delta-accepts {m} {J} h = rw (migration-accepts K s t f h.migration_sound, h.j_sound, le-leb (sum_of (delta m.S.schema m.F J).counts) max_rows h.fits)
+  pub delta-accepts : {m : Migration} {J : Instance} → DeltaSound s t f j m J → delta_tables s t f j ≡ accepted (delta_result m J)
+  delta-accepts {m} {J} h = rw (migration-accepts s t f h.migration_sound, h.j_sound, le-leb (sum_of (delta m.S m.F J).counts) max_rows h.fits)
 
-pub record SigmaSound (K : SchemaKind) (ks : Kinds) (s t f i : List ℕ) (m : Migration) (I : Instance) : Type 0 where
-  pub migration_sound : MigrationSound K s t f m
-  pub i_sound : judge_instance ks m.S.schema i ≡ sound I
-  pub is-even : even m.S m.T m.F ≡ true
-  pub fits : sum_of (sigma m.S m.T m.F I).counts ≤ max_rows
+pub record SigmaSound (s t f i : List ℕ) (m : Migration) (I : Instance) : Type 0 where
+  pub migration_sound : MigrationSound s t f m
+  pub i_sound : judge_instance m.S i ≡ sound I
+  pub is-even : even (listed_category m.S) (listed_category m.T) m.F ≡ true
+  pub fits : sum_of (sigma (listed_category m.S) (listed_category m.T) m.F I).counts ≤ max_rows
 
 abbrev pub sigma_result : Migration → Instance → Migrated
-sigma_result m I = record { schema = m.T.schema; tables = sigma m.S m.T m.F I }
+sigma_result m I = record { schema = m.T; tables = sigma (listed_category m.S) (listed_category m.T) m.F I }
 
-module _ (K : SchemaKind) (ks : Kinds) (s t f i : List ℕ) where
-  pub sigma-accepted : {P : Migrated} → sigma_tables K ks s t f i ≡ accepted P → (m : Migration) × (I : Instance) × SigmaSound K ks s t f i m I × (P ≡ sigma_result m I)
+module _ (s t f i : List ℕ) where
+  pub sigma-accepted : {P : Migrated} → sigma_tables s t f i ≡ accepted P → (m : Migration) × (I : Instance) × SigmaSound s t f i m I × (P ≡ sigma_result m I)
   sigma-accepted e =
-      let a = bind-accepted (migration K s t f) _ e in
+      let a = bind-accepted (migration s t f) _ e in
       let m = a.0 in
-      let b = sheet-accepted 4 (judge_instance ks m.S.schema i) _ a.2 in
-      let c = ensure-accepted (even m.S m.T m.F) 12 _ b.2 in
-      let d = fits-accepted (sigma m.S m.T m.F b.0) _ c.1 in
-      (m, b.0, record { migration_sound = migration-accepted K s t f a.1; i_sound = b.1; is-even = c.0; fits = d.0 }, sym (accepted-same d.1))
+      let b = sheet-accepted 4 (judge_instance m.S i) _ a.2 in
+      let c = ensure-accepted (even (listed_category m.S) (listed_category m.T) m.F) 12 _ b.2 in
+      let d = fits-accepted (sigma (listed_category m.S) (listed_category m.T) m.F b.0) _ c.1 in
+      (m, b.0, record { migration_sound = migration-accepted s t f a.1; i_sound = b.1; is-even = c.0; fits = d.0 }, sym (accepted-same d.1))
 
-  pub sigma-accepts : {m : Migration} {I : Instance} → SigmaSound K ks s t f i m I → sigma_tables K ks s t f i ≡ accepted (sigma_result m I)
+  pub sigma-accepts : {m : Migration} {I : Instance} → SigmaSound s t f i m I → sigma_tables s t f i ≡ accepted (sigma_result m I)
   sigma-accepts {m} {I} h =
-      let n = sum_of (sigma m.S m.T m.F I).counts in
-      rw (migration-accepts K s t f h.migration_sound, h.i_sound, h.is-even, le-leb n max_rows h.fits)
+      let n = sum_of (sigma (listed_category m.S) (listed_category m.T) m.F I).counts in
+      rw (migration-accepts s t f h.migration_sound, h.i_sound, h.is-even, le-leb n max_rows h.fits)
 
-pub record PiSound (K : SchemaKind) (ks : Kinds) (s t f i : List ℕ) (m : Migration) (I : Instance) : Type 0 where
-  pub migration_sound : MigrationSound K s t f m
-  pub i_sound : judge_instance ks m.S.schema i ≡ sound I
-  pub is-bijective : is_bijective m.T.schema m.F ≡ true
-  pub few_components : has_few_components m.S m.T m.F ≡ true
-  pub fits : sum_of (pi m.S m.T m.F I).counts ≤ max_rows
+pub record PiSound (s t f i : List ℕ) (m : Migration) (I : Instance) : Type 0 where
+  pub migration_sound : MigrationSound s t f m
+  pub i_sound : judge_instance m.S i ≡ sound I
+  pub is-bijective : is_bijective m.T m.F ≡ true
+  pub few_components : has_few_components (listed_category m.S) (listed_category m.T) m.F ≡ true
+  pub fits : sum_of (pi (listed_category m.S) (listed_category m.T) m.F I).counts ≤ max_rows
 
 abbrev pub pi_result : Migration → Instance → Migrated
-pi_result m I = record { schema = m.T.schema; tables = pi m.S m.T m.F I }
+pi_result m I = record { schema = m.T; tables = pi (listed_category m.S) (listed_category m.T) m.F I }
 
-module _ (K : SchemaKind) (ks : Kinds) (s t f i : List ℕ) where
-  pub pi-accepted : {P : Migrated} → pi_tables K ks s t f i ≡ accepted P → (m : Migration) × (I : Instance) × PiSound K ks s t f i m I × (P ≡ pi_result m I)
+module _ (s t f i : List ℕ) where
+  pub pi-accepted : {P : Migrated} → pi_tables s t f i ≡ accepted P → (m : Migration) × (I : Instance) × PiSound s t f i m I × (P ≡ pi_result m I)
   pi-accepted e =
-      let a = bind-accepted (migration K s t f) _ e in
+      let a = bind-accepted (migration s t f) _ e in
       let m = a.0 in
-      let b = sheet-accepted 4 (judge_instance ks m.S.schema i) _ a.2 in
-      let c = ensure-accepted (is_bijective m.T.schema m.F) 13 _ b.2 in
-      let n = ensure-accepted (has_few_components m.S m.T m.F) 14 _ c.1 in
-      let d = fits-accepted (pi m.S m.T m.F b.0) _ n.1 in
-      (m, b.0, record { migration_sound = migration-accepted K s t f a.1; i_sound = b.1; is-bijective = c.0; few_components = n.0; fits = d.0 }, sym (accepted-same d.1))
+      let b = sheet-accepted 4 (judge_instance m.S i) _ a.2 in
+      let c = ensure-accepted (is_bijective m.T m.F) 13 _ b.2 in
+      let n = ensure-accepted (has_few_components (listed_category m.S) (listed_category m.T) m.F) 14 _ c.1 in
+      let d = fits-accepted (pi (listed_category m.S) (listed_category m.T) m.F b.0) _ n.1 in
+      (m, b.0, record { migration_sound = migration-accepted s t f a.1; i_sound = b.1; is-bijective = c.0; few_components = n.0; fits = d.0 }, sym (accepted-same d.1))
 
-  pub pi-accepts : {m : Migration} {I : Instance} → PiSound K ks s t f i m I → pi_tables K ks s t f i ≡ accepted (pi_result m I)
+  pub pi-accepts : {m : Migration} {I : Instance} → PiSound s t f i m I → pi_tables s t f i ≡ accepted (pi_result m I)
   pi-accepts {m} {I} h =
-      let n = sum_of (pi m.S m.T m.F I).counts in
-      rw (migration-accepts K s t f h.migration_sound, h.i_sound, h.is-bijective, h.few_components, le-leb n max_rows h.fits)
+      let n = sum_of (pi (listed_category m.S) (listed_category m.T) m.F I).counts in
+      rw (migration-accepts s t f h.migration_sound, h.i_sound, h.is-bijective, h.few_components, le-leb n max_rows h.fits)
 
 -- ---- the run and the book, with both migrated tables
-pub record SidesSound (K : SchemaKind) (ks : Kinds) (s t f i j : List ℕ) (x : Sides) : Type 0 where
-  pub migration_sound : MigrationSound K s t f x.m
-  pub run_sound : judge_instance ks x.m.S.schema i ≡ sound x.run
-  pub book_sound : judge_instance ks x.m.T.schema j ≡ sound x.book
-  pub is-even : even x.m.S x.m.T x.m.F ≡ true
-  pub pushed_is : x.pushed ≡ sigma x.m.S x.m.T x.m.F x.run
-  pub pulled_is : x.pulled ≡ delta x.m.S.schema x.m.F x.book
+pub record SidesSound (s t f i j : List ℕ) (x : Sides) : Type 0 where
+  pub migration_sound : MigrationSound s t f x.m
+  pub run_sound : judge_instance x.m.S i ≡ sound x.run
+  pub book_sound : judge_instance x.m.T j ≡ sound x.book
+  pub is-even : even (listed_category x.m.S) (listed_category x.m.T) x.m.F ≡ true
+  pub pushed_is : x.pushed ≡ sigma (listed_category x.m.S) (listed_category x.m.T) x.m.F x.run
+  pub pulled_is : x.pulled ≡ delta x.m.S x.m.F x.book
   pub pushed_fits : sum_of x.pushed.counts ≤ max_rows
   pub pulled_fits : sum_of x.pulled.counts ≤ max_rows
 
-module _ (K : SchemaKind) (ks : Kinds) (s t f i j : List ℕ) where
-  pub sides-accepted : {x : Sides} → sides K ks s t f i j ≡ accepted x → SidesSound K ks s t f i j x
+module _ (s t f i j : List ℕ) where
+  pub sides-accepted : {x : Sides} → sides s t f i j ≡ accepted x → SidesSound s t f i j x
   sides-accepted e =
-      let a = bind-accepted (migration K s t f) _ e in
+      let a = bind-accepted (migration s t f) _ e in
       let m = a.0 in
-      let b = sheet-accepted 4 (judge_instance ks m.S.schema i) _ a.2 in
-      let c = sheet-accepted 5 (judge_instance ks m.T.schema j) _ b.2 in
-      let d = ensure-accepted (even m.S m.T m.F) 12 _ c.2 in
-      let p = fits-accepted (sigma m.S m.T m.F b.0) _ d.1 in
-      let q = fits-accepted (delta m.S.schema m.F c.0) _ p.1 in
-      subst (SidesSound K ks s t f i j) (accepted-same q.1) (record {
-        migration_sound = migration-accepted K s t f a.1;
+      let b = sheet-accepted 4 (judge_instance m.S i) _ a.2 in
+      let c = sheet-accepted 5 (judge_instance m.T j) _ b.2 in
+      let d = ensure-accepted (even (listed_category m.S) (listed_category m.T) m.F) 12 _ c.2 in
+      let p = fits-accepted (sigma (listed_category m.S) (listed_category m.T) m.F b.0) _ d.1 in
+      let q = fits-accepted (delta m.S m.F c.0) _ p.1 in
+      subst (SidesSound s t f i j) (accepted-same q.1) (record {
+        migration_sound = migration-accepted s t f a.1;
         run_sound = b.1;
         book_sound = c.1;
         is-even = d.0;
@@ -165,35 +165,35 @@ module _ (K : SchemaKind) (ks : Kinds) (s t f i j : List ℕ) where
         pulled_fits = q.0;
       })
 
-  pub sides-accepts : {x : Sides} → SidesSound K ks s t f i j x → sides K ks s t f i j ≡ accepted x
+  pub sides-accepts : {x : Sides} → SidesSound s t f i j x → sides s t f i j ≡ accepted x
   sides-accepts {x} h =
-      let pushed_fits : sum_of (sigma x.m.S x.m.T x.m.F x.run).counts ≤ max_rows = rw h.pushed_is at h.pushed_fits in
-      let pulled_fits : sum_of (delta x.m.S.schema x.m.F x.book).counts ≤ max_rows = rw h.pulled_is at h.pulled_fits in
+      let pushed_fits : sum_of (sigma (listed_category x.m.S) (listed_category x.m.T) x.m.F x.run).counts ≤ max_rows = rw h.pushed_is at h.pushed_fits in
+      let pulled_fits : sum_of (delta x.m.S x.m.F x.book).counts ≤ max_rows = rw h.pulled_is at h.pulled_fits in
       rw (
-        migration-accepts K s t f h.migration_sound,
+        migration-accepts s t f h.migration_sound,
         h.run_sound,
         h.book_sound,
         h.is-even,
-        le-leb (sum_of (sigma x.m.S x.m.T x.m.F x.run).counts) max_rows pushed_fits,
-        le-leb (sum_of (delta x.m.S.schema x.m.F x.book).counts) max_rows pulled_fits,
+        le-leb (sum_of (sigma (listed_category x.m.S) (listed_category x.m.T) x.m.F x.run).counts) max_rows pushed_fits,
+        le-leb (sum_of (delta x.m.S x.m.F x.book).counts) max_rows pulled_fits,
         ← h.pushed_is,
         ← h.pulled_is,
       )
 
 -- ---- a run that is to be changed
 pub record RunSound (s t f i : List ℕ) (x : Run) : Type 0 where
-  pub migration_sound : MigrationSound listed s t f x.m
-  pub tables_sound : judge_instance kinds x.m.S.schema i ≡ sound x.tables
-  pub is-even : even x.m.S x.m.T x.m.F ≡ true
+  pub migration_sound : MigrationSound s t f x.m
+  pub tables_sound : judge_instance x.m.S i ≡ sound x.tables
+  pub is-even : even (listed_category x.m.S) (listed_category x.m.T) x.m.F ≡ true
 
 module _ (s t f i : List ℕ) where
   pub run_accepted : {x : Run} → judge_run s t f i ≡ accepted x → RunSound s t f i x
   run_accepted e =
-      let a = bind-accepted (migration listed s t f) _ e in
+      let a = bind-accepted (migration s t f) _ e in
       let m = a.0 in
-      let b = sheet-accepted 4 (judge_instance kinds m.S.schema i) _ a.2 in
-      let c = ensure-accepted (even m.S m.T m.F) 12 _ b.2 in
-      subst (RunSound s t f i) (accepted-same c.1) (record { migration_sound = migration-accepted listed s t f a.1; tables_sound = b.1; is-even = c.0 })
+      let b = sheet-accepted 4 (judge_instance m.S i) _ a.2 in
+      let c = ensure-accepted (even (listed_category m.S) (listed_category m.T) m.F) 12 _ b.2 in
+      subst (RunSound s t f i) (accepted-same c.1) (record { migration_sound = migration-accepted s t f a.1; tables_sound = b.1; is-even = c.0 })
 
   pub run-accepts : {x : Run} → RunSound s t f i x → judge_run s t f i ≡ accepted x
-  run-accepts h = rw (migration-accepts listed s t f h.migration_sound, h.tables_sound, h.is-even)
+  run-accepts h = rw (migration-accepts s t f h.migration_sound, h.tables_sound, h.is-even)

@@ -24,10 +24,9 @@ use Rattle.meaning.specs.PathChain.{Step, first_chain}
 use Rattle.meaning.specs.PathEquality.{first_path}
 use Rattle.meaning.specs.Category.{Category, listed_category}
 use Rattle.meaning.specs.Sheet.{sound, on_sheet}
-use Rattle.meaning.specs.Formats.{Mapping, Instance, Kinds, max_components, max_paths, max_rows, path_sheet, read_path_sheet, read_chain, chain_sheet}
+use Rattle.meaning.specs.Formats.{Mapping, Instance, max_components, max_paths, max_rows, path_sheet, read_path_sheet, read_chain, chain_sheet}
 use Rattle.meaning.specs.Views.{Shaped, schema_of, mapping_of, instance_of}
 use Rattle.meaning.specs.Judge.{judge_path, judge_schema}
-use Rattle.meaning.specs.SchemaKinds.{SchemaKind}
 use Rattle.meaning.specs.Delta.{delta}
 use Rattle.meaning.specs.Evenness.{even}
 use Rattle.meaning.specs.Sigma.{sigma}
@@ -39,7 +38,6 @@ use Rattle.meaning.proofs.Facts.{schema-facts}
 use Rattle.meaning.proofs.Written.{path-sheet-read, chain-sheet-length, chain-read}
 use Rattle.agreement.specs.Paths.{EqualPaths, WellFormed, path_count}
 use Rattle.agreement.specs.PathChains.{IsFirstChain, ChainAnswers}
-use Rattle.agreement.specs.Categories.{IsKind}
 use Rattle.agreement.specs.Valid.{ValidMapping}
 use Rattle.agreement.proofs.Valid.{mapping-valid, instance-valid}
 use Rattle.agreement.proofs.Tests.{refused-not-accepted, accepted-same, bind-same, bind_assoc, own-refusal, later-refusal, own-result, later-result, not-refused, Settled, settled-next, settled-apart, settled-result}
@@ -133,18 +131,18 @@ module _ {A X : Type 0} {p o : Outcome A} (e : p ≡ o) where
 
 -- ---- Pi: 13, then 14, then 15
 
-module _ {K : SchemaKind} (kind : IsKind K) (ks : Kinds) (s t f i : List ℕ) {S T : Category} {F : Mapping} {I : Instance} (x : Inputs K ks s t f i S T S F I) where
+module _ (s t f i : List ℕ) {S T : Schema} {F : Mapping} {I : Instance} (x : Inputs s t f i S T S F I) where
   abbrev paired : Bool
-  paired = is_bijective T.schema F
+  paired = is_bijective T F
 
   abbrev narrow : Bool
-  narrow = has_few_components S T F
+  narrow = has_few_components (listed_category S) (listed_category T) F
 
   abbrev fitting : Bool
-  fitting = leb (sum_of (pi S T F I).counts) max_rows
+  fitting = leb (sum_of (pi (listed_category S) (listed_category T) F I).counts) max_rows
 
   abbrev joined : Outcome Migrated
-  joined = accepted (record { schema = T.schema; tables = pi S T F I })
+  joined = accepted (record { schema = T; tables = pi (listed_category S) (listed_category T) F I })
 
   -- what follows the tests 14 and 13
   abbrev after14 : Outcome Migrated
@@ -153,22 +151,22 @@ module _ {K : SchemaKind} (kind : IsKind K) (ks : Kinds) (s t f i : List ℕ) {S
   abbrev after13 : Outcome Migrated
   after13 = ensure narrow 14 >>= λ _. after14
 
-  yields : pi_tables K ks s t f i ≡ (ensure paired 13 >>= λ _. after13)
+  yields : pi_tables s t f i ≡ (ensure paired 13 >>= λ _. after13)
   yields =
       rw (x.s_accepted, x.t_accepted, x.f_accepted, x.i_accepted) (
       bind-same (ensure paired 13) (λ _. bind-same (ensure narrow 14) (λ _.
-      bind_assoc (ensure fitting 15) (λ _. accepted (pi S T F I)) (λ P. accepted (record { schema = T.schema; tables = P })))))
+      bind_assoc (ensure fitting 15) (λ _. accepted (pi (listed_category S) (listed_category T) F I)) (λ P. accepted (record { schema = T; tables = P })))))
 
   settled : Settled 15 after14
   settled = settled-next fitting 15 joined (inr (_, refl))
 
   -- which refusal of all sheets together, or a result, Pi yields
-  pub pi_answers : PiAnswers K ks s t f i (mapping_of S.schema T.schema F) (instance_of I)
+  pub pi_answers : PiAnswers s t f i (mapping_of S T F) (instance_of I)
   pi_answers =
-      let v = mapping-valid kind s t f x.s_accepted x.t_accepted x.f_accepted in
+      let v = mapping-valid s t f x.s_accepted x.t_accepted x.f_accepted in
       let pairs = bijective-iff v in
       let narrows = true-iff narrow (wide-iff v) in
-      let full : Bijective (mapping_of S.schema T.schema F) → (after14 ≡ refused 15 0) ↔ PiOverfull (mapping_of S.schema T.schema F) (instance_of I) =
+      let full : Bijective (mapping_of S T F) → (after14 ≡ refused 15 0) ↔ PiOverfull (mapping_of S T F) (instance_of I) =
       λ b. own-refusal fitting 15 joined (λ _ e. refused-not-accepted (sym e)) (overfull-iff v I b) in
       record {
         unpaired = outcome-by yields (own-refusal paired 13 after13 (λ _.
@@ -183,15 +181,15 @@ module _ {K : SchemaKind} (kind : IsKind K) (ks : Kinds) (s t f i : List ℕ) {S
 
 -- ---- Delta: 15
 
-module _ {K : SchemaKind} (kind : IsKind K) (ks : Kinds) (s t f j : List ℕ) {S T : Category} {F : Mapping} {J : Instance} (x : Inputs K ks s t f j S T T F J) where
-  pub delta_answers : DeltaAnswers K ks s t f j (mapping_of S.schema T.schema F) (instance_of J)
+module _ (s t f j : List ℕ) {S T : Schema} {F : Mapping} {J : Instance} (x : Inputs s t f j S T T F J) where
+  pub delta_answers : DeltaAnswers s t f j (mapping_of S T F) (instance_of J)
   delta_answers =
-      let v = mapping-valid kind s t f x.s_accepted x.t_accepted x.f_accepted in
-      let b = leb (sum_of (delta S.schema F J).counts) max_rows in
-      let pulled : Outcome Migrated = accepted (record { schema = S.schema; tables = delta S.schema F J }) in
-      let yields : delta_tables K ks s t f j ≡ (ensure b 15 >>= λ _. pulled) =
-      rw (x.s_accepted, x.t_accepted, x.f_accepted, x.i_accepted) (bind_assoc (ensure b 15) (λ _. accepted (delta S.schema F J)) (λ D. accepted (record { schema = S.schema; tables = D }))) in
-      let full = own-refusal b 15 pulled (λ _ e. refused-not-accepted (sym e)) (delta-overfull-iff v J (instance-valid ks T.schema j x.i_accepted).shaped) in
+      let v = mapping-valid s t f x.s_accepted x.t_accepted x.f_accepted in
+      let b = leb (sum_of (delta S F J).counts) max_rows in
+      let pulled : Outcome Migrated = accepted (record { schema = S; tables = delta S F J }) in
+      let yields : delta_tables s t f j ≡ (ensure b 15 >>= λ _. pulled) =
+      rw (x.s_accepted, x.t_accepted, x.f_accepted, x.i_accepted) (bind_assoc (ensure b 15) (λ _. accepted (delta S F J)) (λ D. accepted (record { schema = S; tables = D }))) in
+      let full = own-refusal b 15 pulled (λ _ e. refused-not-accepted (sym e)) (delta-overfull-iff v J (instance-valid T j x.i_accepted).shaped) in
       record {
         overfull = outcome-by yields full;
         result = result_by yields (settled-result 15 (ensure b 15 >>= λ _. pulled) (settled-next b 15 pulled (inr (_, refl))) full);
@@ -199,17 +197,17 @@ module _ {K : SchemaKind} (kind : IsKind K) (ks : Kinds) (s t f j : List ℕ) {S
 
 -- ---- Sigma: 12
 
-module _ {K : SchemaKind} (kind : IsKind K) (ks : Kinds) (s t f i : List ℕ) {S T : Category} {F : Mapping} {I : Instance} (x : Inputs K ks s t f i S T S F I) where
-  pub sigma_answers : SigmaAnswers K ks s t f i (mapping_of S.schema T.schema F)
+module _ (s t f i : List ℕ) {S T : Schema} {F : Mapping} {I : Instance} (x : Inputs s t f i S T S F I) where
+  pub sigma_answers : SigmaAnswers s t f i (mapping_of S T F)
   sigma_answers =
-      let v = mapping-valid kind s t f x.s_accepted x.t_accepted x.f_accepted in
+      let v = mapping-valid s t f x.s_accepted x.t_accepted x.f_accepted in
       let w = even-iff v in
-      let b = even S T F in
-      let P = sigma S T F I in
-      let pushed : Outcome Migrated = ensure_fits P >>= λ P. accepted (record { schema = T.schema; tables = P }) in
-      let yields : sigma_tables K ks s t f i ≡ (ensure b 12 >>= λ _. pushed) = rw (x.s_accepted, x.t_accepted, x.f_accepted, x.i_accepted) in
-      let fits : Even (mapping_of S.schema T.schema F) → (M : Migrated) × (pushed ≡ accepted M) =
-      λ e. (record { schema = T.schema; tables = P }, rw (sigma-never-overfull v e (instance-valid ks S.schema i x.i_accepted))) in
+      let b = even (listed_category S) (listed_category T) F in
+      let P = sigma (listed_category S) (listed_category T) F I in
+      let pushed : Outcome Migrated = ensure_fits P >>= λ P. accepted (record { schema = T; tables = P }) in
+      let yields : sigma_tables s t f i ≡ (ensure b 12 >>= λ _. pushed) = rw (x.s_accepted, x.t_accepted, x.f_accepted, x.i_accepted) in
+      let fits : Even (mapping_of S T F) → (M : Migrated) × (pushed ≡ accepted M) =
+      λ e. (record { schema = T; tables = P }, rw (sigma-never-overfull v e (instance-valid S i x.i_accepted))) in
       record {
         uneven = outcome-by yields (own-refusal b 12 pushed (λ t e. refused-not-accepted (sym e ∙ (fits (w.0 t)).1)) (false-iff b w));
         result = result_by yields (own-result b 12 pushed w fits);

@@ -7,22 +7,18 @@ use Rattle.theory.specs.Schema.{IsSchema}
 use Rattle.theory.proofs.Instance.{follow-chain}
 use Rattle.meaning.specs.Schema.{Schema}
 use Rattle.meaning.specs.Sheet.{sound}
-use Rattle.meaning.specs.Formats.{Instance, Kinds, max_instance_bytes, instance_sheet}
+use Rattle.meaning.specs.Formats.{Instance, max_instance_bytes, instance_sheet}
 use Rattle.meaning.specs.Views.{schema_of}
 use Rattle.meaning.specs.Judge.{judge_schema, judge_instance}
-use Rattle.meaning.specs.Category.{Category}
-use Rattle.meaning.specs.SchemaKinds.{SchemaKind, listed}
 use Rattle.meaning.specs.Calls.{Outcome, accepted, Migration, Migrated, delta_tables, sigma_tables, pi_tables, sheet_of}
 use Rattle.meaning.proofs.Facts.{schema-facts}
 use Rattle.meaning.proofs.Written.{instance-bytes}
-use Rattle.agreement.specs.Categories.{IsKind}
 use Rattle.agreement.specs.Valid.{ValidInstance}
-use Rattle.agreement.specs.OwnKinds.{WellFormedKinds}
 use Rattle.agreement.specs.Agrees.{SchemaAgrees, Lendable, Inputs, DeltaAgrees, SigmaAgrees, PiAgrees}
 use Rattle.agreement.proofs.Paths.{schema_is, paths-listed}
 use Rattle.agreement.proofs.Loops.{height-is}
 use Rattle.agreement.proofs.FirstPaths.{class-iff, class-sorted, first-is}
-use Rattle.agreement.proofs.Categories.{equal-paths-iff, unequal, schema-well-formed, listed-category, listed-facts}
+use Rattle.agreement.proofs.Categories.{equal-paths-iff, unequal, schema-well-formed, listed-category}
 use Rattle.agreement.proofs.Tests.{accepted-same}
 use Rattle.agreement.proofs.Accepted.{bind-accepted, MigrationSound, DeltaSound, delta_result, delta-accepted, SigmaSound, sigma_result, sigma-accepted, PiSound, pi_result, pi-accepted}
 use Rattle.agreement.proofs.Valid.{mapping-valid, instance-valid, valid-lent-again}
@@ -49,12 +45,12 @@ schema_agrees s {S} e =
 
 -- ---- migrated tables
 
-pub lendable : {ks : Kinds} → WellFormedKinds ks → {S : Schema} {I : Instance} → IsSchema (schema_of S) → ValidInstance ks S I → Lendable ks S I
-lendable w s_is v = record { valid = v; obeys = λ n p q h c. follow-chain s_is v.is n c h; lent_again = valid-lent-again w v }
+pub lendable : {S : Schema} {I : Instance} → IsSchema (schema_of S) → ValidInstance S I → Lendable S I
+lendable s_is v = record { valid = v; obeys = λ n p q h c. follow-chain s_is v.is n c h; lent_again = valid-lent-again v }
 
 -- the sheet of such tables, and of a call's result
-pub lendable-within : {ks : Kinds} {C : Category} {I : Instance} (s : List ℕ) → listed.judge_category s ≡ sound C → Lendable ks C.schema I → length (instance_sheet I) ≤ max_instance_bytes
-lendable-within {ks} {C} {I} s e l = instance-bytes ks C.schema (listed-facts s e) (instance_sheet I) l.lent_again
+pub lendable-within : {S : Schema} {I : Instance} (s : List ℕ) → judge_schema s ≡ sound S → Lendable S I → length (instance_sheet I) ≤ max_instance_bytes
+lendable-within {S} {I} s e l = instance-bytes S (schema-facts s e) (instance_sheet I) l.lent_again
 
 pub sheet-within : (o : Outcome Migrated) (n : ℕ) → ((M : Migrated) → o ≡ accepted M → length (instance_sheet M.tables) ≤ n)
     → (bytes : List ℕ) → sheet_of o ≡ accepted bytes → length bytes ≤ n
@@ -63,65 +59,64 @@ sheet-within o n h bytes e =
     let k : instance_sheet a.0.tables ≡ bytes = accepted-same a.2 in
     rw k at (h a.0 a.1)
 
-pub inputs : {K : SchemaKind} (ks : Kinds) {s t f i : List ℕ} {m : Migration} (R : Category) {I : Instance} → MigrationSound K s t f m → judge_instance ks R.schema i ≡ sound I
-    → Inputs K ks s t f i m.S m.T R m.F I
-inputs ks R a e = record { s_accepted = a.s_sound; t_accepted = a.t_sound; f_accepted = a.f_sound; i_accepted = e }
+pub inputs : {s t f i : List ℕ} {m : Migration} {R : Schema} {I : Instance} → MigrationSound s t f m → judge_instance R i ≡ sound I → Inputs s t f i m.S m.T R m.F I
+inputs a e = record { s_accepted = a.s_sound; t_accepted = a.t_sound; f_accepted = a.f_sound; i_accepted = e }
 
-pub delta_agrees : {K : SchemaKind} → IsKind K → {ks : Kinds} → WellFormedKinds ks → (s t f j : List ℕ) {M : Migrated} → delta_tables K ks s t f j ≡ accepted M → DeltaAgrees K ks s t f j M
-delta_agrees {K} kind {ks} w s t f j e = let r = delta-accepted K ks s t f j e in subst (DeltaAgrees K ks s t f j) (sym r.3) (of r.0 r.1 r.2)
+pub delta_agrees : (s t f j : List ℕ) {M : Migrated} → delta_tables s t f j ≡ accepted M → DeltaAgrees s t f j M
+delta_agrees s t f j e = let r = delta-accepted s t f j e in subst (DeltaAgrees s t f j) (sym r.3) (of r.0 r.1 r.2)
   where
-    of : (m : Migration) (J : Instance) → DeltaSound K ks s t f j m J → DeltaAgrees K ks s t f j (delta_result m J)
+    of : (m : Migration) (J : Instance) → DeltaSound s t f j m J → DeltaAgrees s t f j (delta_result m J)
     of m J d =
         let a = d.migration_sound in
-        let v = mapping-valid kind s t f a.s_sound a.t_sound a.f_sound in
+        let v = mapping-valid s t f a.s_sound a.t_sound a.f_sound in
         record {
           S = m.S;
           T = m.T;
           F = m.F;
           J = J;
-          inputs = inputs ks m.T a d.j_sound;
+          inputs = inputs a d.j_sound;
           schema_is = refl;
           is_delta = delta-alike v J;
-          lendable = lendable w v.is.s_is (delta-valid v J (instance-valid ks m.T.schema j d.j_sound) d.fits);
+          lendable = lendable v.is.s_is (delta-valid v J (instance-valid m.T j d.j_sound) d.fits);
         }
 
-pub sigma_agrees : {K : SchemaKind} → IsKind K → {ks : Kinds} → WellFormedKinds ks → (s t f i : List ℕ) {M : Migrated} → sigma_tables K ks s t f i ≡ accepted M → SigmaAgrees K ks s t f i M
-sigma_agrees {K} kind {ks} w s t f i e = let r = sigma-accepted K ks s t f i e in subst (SigmaAgrees K ks s t f i) (sym r.3) (of r.0 r.1 r.2)
+pub sigma_agrees : (s t f i : List ℕ) {M : Migrated} → sigma_tables s t f i ≡ accepted M → SigmaAgrees s t f i M
+sigma_agrees s t f i e = let r = sigma-accepted s t f i e in subst (SigmaAgrees s t f i) (sym r.3) (of r.0 r.1 r.2)
   where
-    of : (m : Migration) (I : Instance) → SigmaSound K ks s t f i m I → SigmaAgrees K ks s t f i (sigma_result m I)
+    of : (m : Migration) (I : Instance) → SigmaSound s t f i m I → SigmaAgrees s t f i (sigma_result m I)
     of m I d =
         let a = d.migration_sound in
-        let v = mapping-valid kind s t f a.s_sound a.t_sound a.f_sound in
-        let i-valid = instance-valid ks m.S.schema i d.i_sound in
+        let v = mapping-valid s t f a.s_sound a.t_sound a.f_sound in
+        let w = instance-valid m.S i d.i_sound in
         let even = (even-iff v).0 d.is-even in
         record {
           S = m.S;
           T = m.T;
           F = m.F;
           I = I;
-          inputs = inputs ks m.S a d.i_sound;
+          inputs = inputs a d.i_sound;
           schema_is = refl;
           is-even = even;
-          is_sigma = sigma-is-sigma v even i-valid;
-          lendable = lendable w v.is.t_is (sigma-valid v even i-valid);
+          is_sigma = sigma-is-sigma v even w;
+          lendable = lendable v.is.t_is (sigma-valid v even w);
         }
 
-pub pi_agrees : {K : SchemaKind} → IsKind K → {ks : Kinds} → WellFormedKinds ks → (s t f i : List ℕ) {M : Migrated} → pi_tables K ks s t f i ≡ accepted M → PiAgrees K ks s t f i M
-pi_agrees {K} kind {ks} w s t f i e = let r = pi-accepted K ks s t f i e in subst (PiAgrees K ks s t f i) (sym r.3) (of r.0 r.1 r.2)
+pub pi_agrees : (s t f i : List ℕ) {M : Migrated} → pi_tables s t f i ≡ accepted M → PiAgrees s t f i M
+pi_agrees s t f i e = let r = pi-accepted s t f i e in subst (PiAgrees s t f i) (sym r.3) (of r.0 r.1 r.2)
   where
-    of : (m : Migration) (I : Instance) → PiSound K ks s t f i m I → PiAgrees K ks s t f i (pi_result m I)
+    of : (m : Migration) (I : Instance) → PiSound s t f i m I → PiAgrees s t f i (pi_result m I)
     of m I d =
         let a = d.migration_sound in
-        let v = mapping-valid kind s t f a.s_sound a.t_sound a.f_sound in
+        let v = mapping-valid s t f a.s_sound a.t_sound a.f_sound in
         let paired = (bijective-iff v).0 d.is-bijective in
         record {
           S = m.S;
           T = m.T;
           F = m.F;
           I = I;
-          inputs = inputs ks m.S a d.i_sound;
+          inputs = inputs a d.i_sound;
           schema_is = refl;
           is-bijective = paired;
           is_pi = pi-is-pi v I paired;
-          lendable = lendable w v.is.t_is (pi-valid v I paired (instance-valid ks m.S.schema i d.i_sound) d.fits);
+          lendable = lendable v.is.t_is (pi-valid v I paired (instance-valid m.S i d.i_sound) d.fits);
         }

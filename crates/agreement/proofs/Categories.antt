@@ -1,5 +1,5 @@
 -- In a category two paths are found equal exactly when a chain of steps leads from one to the other, and a path stands for its class exactly when it is the
--- theory's first; a schema without a loop presents such a category, and document 01's schemas are a kind of schema.
+-- theory's first; a schema without a loop presents such a category.
 use Prim.Native.Nat.{ℕ}
 use mathlib.Core.Path.{◌≡◌, refl, sym, ap, ◌∙◌, subst}
 use mathlib.Core.Bool.{true, false}
@@ -11,14 +11,10 @@ use Rattle.theory.proofs.Order.{first_one}
 use Rattle.meaning.specs.Schema.{Path, path, Schema, target, end}
 use Rattle.meaning.specs.Category.{Category, equal, is_first, listed_category}
 use Rattle.meaning.specs.Views.{schema_of}
-use Rattle.meaning.specs.Sheet.{sound}
-use Rattle.meaning.specs.Judge.{judge_schema}
-use Rattle.meaning.specs.SchemaKinds.{listed}
-use Rattle.meaning.proofs.Readers.{bind-sound, sound-same}
-use Rattle.meaning.proofs.Facts.{SchemaFacts, schema-facts, mapping-sheet-fits}
+use Rattle.meaning.proofs.Facts.{SchemaFacts}
 use Rattle.meaning.proofs.Lists.{test-false}
 use Rattle.agreement.specs.Paths.{EqualPaths, WellFormed}
-use Rattle.agreement.specs.Categories.{IsCategory, IsKind}
+use Rattle.agreement.specs.Categories.{IsCategory}
 use Rattle.agreement.proofs.Paths.{schema_is, paths_from-each, paths_from-sorted, identical-iff}
 use Rattle.agreement.proofs.FirstPaths.{equal_paths-sym, equal_paths-trans, first-is}
 
@@ -79,22 +75,4 @@ listed-category S wf = record {
   from_path = λ n h p m. (paths_from-each S wf n h p).0 m;
   in_order = paths_from-sorted S.graph;
   listed = λ n h g f. (paths_from-each S wf n h (path n g)).1 (refl, f.path);
-}
-
--- ---- the kind of document 01's schemas
-
--- an accepted sheet presents the category of its schema
-pub listed-sound : (s : List ℕ) {C : Category} → listed.judge_category s ≡ sound C → (S : Schema) × (judge_schema s ≡ sound S) × (listed_category S ≡ C)
-listed-sound s e = let r = bind-sound (judge_schema s) (λ S. sound (listed_category S)) e in (r.0, r.1, sound-same r.2)
-
-pub listed-facts : (s : List ℕ) {C : Category} → listed.judge_category s ≡ sound C → SchemaFacts C.schema
-listed-facts s e = let r = listed-sound s e in subst (λ (C : Category). SchemaFacts C.schema) r.2 (schema-facts s r.1)
-
-pub listed-accepts : (s : List ℕ) {S : Schema} → judge_schema s ≡ sound S → listed.judge_category s ≡ sound (listed_category S)
-listed-accepts s e = rw e
-
-pub listed_kind : IsKind listed
-listed_kind = record {
-  category = λ s e. let r = listed-sound s e in subst IsCategory r.2 (listed-category r.0 (schema-well-formed (schema-facts s r.1)));
-  images = λ C f e. let h = mapping-sheet-fits C.schema f e in record { nodes = h.nodes; edges = h.edges; attributes = h.attributes };
 }

@@ -8,11 +8,11 @@ use native.Mathlib.Omega.{arith}
 use lib.ListN.{length, take, drop}
 use lib.Seq.{take_at}
 use borrow.Author.Tests.{le-leb}
-use Rattle.meaning.specs.Category.{Category}
+use Rattle.meaning.specs.Schema.{Schema}
 use Rattle.meaning.specs.Sheet.{sound}
-use Rattle.meaning.specs.Formats.{Mapping, Instance, kinds, max_instance_bytes, instance_sheet}
-use Rattle.meaning.specs.Judge.{judge_instance}
-use Rattle.meaning.specs.SchemaKinds.{listed}
+use Rattle.meaning.specs.Category.{listed_category}
+use Rattle.meaning.specs.Formats.{Mapping, Instance, max_instance_bytes, instance_sheet}
+use Rattle.meaning.specs.Judge.{judge_schema, judge_instance}
 use Rattle.meaning.specs.Delta.{delta}
 use Rattle.meaning.specs.Pi.{pi}
 use Rattle.meaning.specs.Calls.{Outcome, refused, accepted, ◌>>=◌, Migration, Migrated, delta_tables, sigma_tables, pi_tables, sheet_of, Lent, in_tray}
@@ -22,8 +22,6 @@ use Rattle.agreement.specs.Query.{cut_to_length, QueryAgrees, chained, SameResul
 use Rattle.agreement.proofs.Tests.{refused-not-accepted, accepted-same, bind-same, bind_assoc}
 use Rattle.agreement.proofs.Outcomes.{query_result, accepted-tray}
 use Rattle.agreement.proofs.Accepted.{bind-accepted, DeltaSound, delta-accepted, SigmaSound, sigma_result, sigma-accepted, PiSound, pi_result, pi-accepted}
-use Rattle.agreement.proofs.Ranges.{built_in}
-use Rattle.agreement.proofs.Categories.{listed_kind}
 use Rattle.agreement.proofs.Valid.{mapping-valid, instance-valid, valid-lent-again}
 use Rattle.agreement.proofs.Delta.{delta-valid}
 use Rattle.agreement.proofs.Bijections.{bijective-iff}
@@ -61,10 +59,10 @@ same-result tray (accepted M) p h = rw ((h M).0 refl) (record { accepts = λ l. 
 -- ---- a call of which the source and its instance are known
 
 module _ (s i : List ℕ) where
-  known : (X : Migration → Instance → Type 0) {m : Migration} {J : Instance} {S : Category} {I : Instance} → listed.judge_category s ≡ sound m.S → judge_instance kinds m.S.schema i ≡ sound J → X m J
-      → listed.judge_category s ≡ sound S → judge_instance kinds S.schema i ≡ sound I → X (record { S = S; T = m.T; F = m.F }) I
+  known : (X : Migration → Instance → Type 0) {m : Migration} {J : Instance} {S : Schema} {I : Instance} → judge_schema s ≡ sound m.S → judge_instance m.S i ≡ sound J → X m J
+      → judge_schema s ≡ sound S → judge_instance S i ≡ sound I → X (record { S = S; T = m.T; F = m.F }) I
   known X {m} {I = I} a b k c =
-      subst (λ (S : Category). judge_instance kinds S.schema i ≡ sound I → X (record { S = S; T = m.T; F = m.F }) I) (sound-same (sym a ∙ c)) (λ d.
+      subst (λ (S : Schema). judge_instance S i ≡ sound I → X (record { S = S; T = m.T; F = m.F }) I) (sound-same (sym a ∙ c)) (λ d.
       subst (X m) (sound-same (sym b ∙ d)) k)
 
 -- ---- the three calls as one outcome
@@ -72,60 +70,60 @@ module _ (s i : List ℕ) where
 module _ (s1 s2 s3 s4 f g h i : List ℕ) where
   abbrev chain_tables : Outcome Migrated
   chain_tables = do
-    D ← delta_tables listed kinds s2 s1 f i
-    P ← pi_tables listed kinds s2 s3 g (instance_sheet D.tables)
-    sigma_tables listed kinds s3 s4 h (instance_sheet P.tables)
+    D ← delta_tables s2 s1 f i
+    P ← pi_tables s2 s3 g (instance_sheet D.tables)
+    sigma_tables s3 s4 h (instance_sheet P.tables)
 
-  chain-sheet : (sheet_of (delta_tables listed kinds s2 s1 f i) >>= λ d. sheet_of (pi_tables listed kinds s2 s3 g d) >>= λ p. sheet_of (sigma_tables listed kinds s3 s4 h p)) ≡ sheet_of chain_tables
+  chain-sheet : (sheet_of (delta_tables s2 s1 f i) >>= λ d. sheet_of (pi_tables s2 s3 g d) >>= λ p. sheet_of (sigma_tables s3 s4 h p)) ≡ sheet_of chain_tables
   chain-sheet =
-      sheet-next (delta_tables listed kinds s2 s1 f i) (λ d. sheet_of (pi_tables listed kinds s2 s3 g d) >>= λ p. sheet_of (sigma_tables listed kinds s3 s4 h p))
-      ∙ bind-same (delta_tables listed kinds s2 s1 f i) (λ D.
+      sheet-next (delta_tables s2 s1 f i) (λ d. sheet_of (pi_tables s2 s3 g d) >>= λ p. sheet_of (sigma_tables s3 s4 h p))
+      ∙ bind-same (delta_tables s2 s1 f i) (λ D.
       let d = instance_sheet D.tables in
-      sheet-next (pi_tables listed kinds s2 s3 g d) (λ p. sheet_of (sigma_tables listed kinds s3 s4 h p))
-      ∙ sym (bind_assoc (pi_tables listed kinds s2 s3 g d) (λ P. sigma_tables listed kinds s3 s4 h (instance_sheet P.tables)) sheet))
-      ∙ sym (bind_assoc (delta_tables listed kinds s2 s1 f i) (λ D. pi_tables listed kinds s2 s3 g (instance_sheet D.tables) >>= λ P. sigma_tables listed kinds s3 s4 h (instance_sheet P.tables)) sheet)
+      sheet-next (pi_tables s2 s3 g d) (λ p. sheet_of (sigma_tables s3 s4 h p))
+      ∙ sym (bind_assoc (pi_tables s2 s3 g d) (λ P. sigma_tables s3 s4 h (instance_sheet P.tables)) sheet))
+      ∙ sym (bind_assoc (delta_tables s2 s1 f i) (λ D. pi_tables s2 s3 g (instance_sheet D.tables) >>= λ P. sigma_tables s3 s4 h (instance_sheet P.tables)) sheet)
 
   chained-is : (first second tray : List ℕ) → max_instance_bytes ≤ length first → max_instance_bytes ≤ length second
       → chained s1 s2 s3 s4 f g h i first second tray ≡ in_tray tray (sheet_of chain_tables)
   chained-is first second tray long long' = ap (in_tray tray) (
-      ap (λ (o : Outcome (List ℕ)). o >>= λ d. cut_to_length (in_tray second (sheet_of (pi_tables listed kinds s2 s3 g d))) >>= last)
-      (cut-whole first (sheet_of (delta_tables listed kinds s2 s1 f i)) (sheet-within (delta_tables listed kinds s2 s1 f i) (length first) (λ M e.
-      let a = delta_agrees listed_kind built_in s2 s1 f i e in
+      ap (λ (o : Outcome (List ℕ)). o >>= λ d. cut_to_length (in_tray second (sheet_of (pi_tables s2 s3 g d))) >>= last)
+      (cut-whole first (sheet_of (delta_tables s2 s1 f i)) (sheet-within (delta_tables s2 s1 f i) (length first) (λ M e.
+      let a = delta_agrees s2 s1 f i e in
       let l = lendable-within s2 a.inputs.s_accepted a.lendable in
       omega arith)))
-      ∙ bind-same (sheet_of (delta_tables listed kinds s2 s1 f i)) (λ d.
-      ap (λ (o : Outcome (List ℕ)). o >>= last) (cut-whole second (sheet_of (pi_tables listed kinds s2 s3 g d)) (sheet-within (pi_tables listed kinds s2 s3 g d) (length second) (λ M e.
-      let a = pi_agrees listed_kind built_in s2 s3 g d e in
+      ∙ bind-same (sheet_of (delta_tables s2 s1 f i)) (λ d.
+      ap (λ (o : Outcome (List ℕ)). o >>= last) (cut-whole second (sheet_of (pi_tables s2 s3 g d)) (sheet-within (pi_tables s2 s3 g d) (length second) (λ M e.
+      let a = pi_agrees s2 s3 g d e in
       let l = lendable-within s3 a.inputs.t_accepted a.lendable in
       omega arith))))
       ∙ chain-sheet)
     where
       last : List ℕ → Outcome (List ℕ)
-      last p = sheet_of (sigma_tables listed kinds s3 s4 h p)
+      last p = sheet_of (sigma_tables s3 s4 h p)
 
   -- ---- it has the query's results
 
   chain-accepts : {M : Migrated} → QueryAgrees s1 s2 s3 s4 f g h i M → chain_tables ≡ accepted M
   chain-accepts a =
-      ap (λ (o : Outcome Migrated). o >>= λ D. pi_tables listed kinds s2 s3 g (instance_sheet D.tables) >>= λ P. sigma_tables listed kinds s3 s4 h (instance_sheet P.tables)) a.pulled_by_call
-      ∙ ap (λ (o : Outcome Migrated). o >>= λ P. sigma_tables listed kinds s3 s4 h (instance_sheet P.tables)) a.joined_by_call
+      ap (λ (o : Outcome Migrated). o >>= λ D. pi_tables s2 s3 g (instance_sheet D.tables) >>= λ P. sigma_tables s3 s4 h (instance_sheet P.tables)) a.pulled_by_call
+      ∙ ap (λ (o : Outcome Migrated). o >>= λ P. sigma_tables s3 s4 h (instance_sheet P.tables)) a.joined_by_call
       ∙ a.pushed_by_call
 
   -- Delta's and Pi's calls accepted, Sigma's is left
-  chain-last : {M : Migrated} (m : Migration) (I : Instance) → DeltaSound listed kinds s2 s1 f i m I
-      → (T : Category) (G : Mapping) → PiSound listed kinds s2 s3 g (instance_sheet (delta m.S.schema m.F I)) (record { S = m.S; T = T; F = G }) (delta m.S.schema m.F I)
-      → sigma_tables listed kinds s3 s4 h (instance_sheet (pi m.S T G (delta m.S.schema m.F I))) ≡ accepted M
+  chain-last : {M : Migrated} (m : Migration) (I : Instance) → DeltaSound s2 s1 f i m I
+      → (T : Schema) (G : Mapping) → PiSound s2 s3 g (instance_sheet (delta m.S m.F I)) (record { S = m.S; T = T; F = G }) (delta m.S m.F I)
+      → sigma_tables s3 s4 h (instance_sheet (pi (listed_category m.S) (listed_category T) G (delta m.S m.F I))) ≡ accepted M
       → (q : Query) × (I : Instance) × QuerySound s1 s2 s3 s4 f g h i q I × (M ≡ query_result q I)
   chain-last {M} m I k T G l e =
       let a = k.migration_sound in
       let b = l.migration_sound in
-      let v = mapping-valid listed_kind s2 s3 g b.s_sound b.t_sound b.f_sound in
-      let D = delta m.S.schema m.F I in
-      let P = pi m.S T G D in
-      let P-valid = pi-valid v D ((bijective-iff v).0 l.is-bijective) (instance-valid kinds m.S.schema (instance_sheet D) l.i_sound) l.fits in
-      let r = sigma-accepted listed kinds s3 s4 h (instance_sheet P) e in
-      let u = known s3 (instance_sheet P) (λ n J. SigmaSound listed kinds s3 s4 h (instance_sheet P) n J × (M ≡ sigma_result n J))
-      r.2.migration_sound.s_sound r.2.i_sound (r.2, r.3) b.t_sound (valid-lent-again built_in P-valid) in
+      let v = mapping-valid s2 s3 g b.s_sound b.t_sound b.f_sound in
+      let D = delta m.S m.F I in
+      let P = pi (listed_category m.S) (listed_category T) G D in
+      let P-valid = pi-valid v D ((bijective-iff v).0 l.is-bijective) (instance-valid m.S (instance_sheet D) l.i_sound) l.fits in
+      let r = sigma-accepted s3 s4 h (instance_sheet P) e in
+      let u = known s3 (instance_sheet P) (λ n J. SigmaSound s3 s4 h (instance_sheet P) n J × (M ≡ sigma_result n J))
+      r.2.migration_sound.s_sound r.2.i_sound (r.2, r.3) b.t_sound (valid-lent-again P-valid) in
       let c = u.0.migration_sound in (
         record { S1 = m.T; S2 = m.S; S3 = T; S4 = r.0.T; F = m.F; G = G; H = r.0.F },
         I,
@@ -150,22 +148,22 @@ module _ (s1 s2 s3 s4 f g h i : List ℕ) where
       )
 
   -- Delta's call accepted, Pi's and Sigma's are left
-  chain-later : {P M : Migrated} (m : Migration) (I : Instance) → DeltaSound listed kinds s2 s1 f i m I → pi_tables listed kinds s2 s3 g (instance_sheet (delta m.S.schema m.F I)) ≡ accepted P
-      → sigma_tables listed kinds s3 s4 h (instance_sheet P.tables) ≡ accepted M → (q : Query) × (I : Instance) × QuerySound s1 s2 s3 s4 f g h i q I × (M ≡ query_result q I)
+  chain-later : {P M : Migrated} (m : Migration) (I : Instance) → DeltaSound s2 s1 f i m I → pi_tables s2 s3 g (instance_sheet (delta m.S m.F I)) ≡ accepted P
+      → sigma_tables s3 s4 h (instance_sheet P.tables) ≡ accepted M → (q : Query) × (I : Instance) × QuerySound s1 s2 s3 s4 f g h i q I × (M ≡ query_result q I)
   chain-later {P} {M} m I k e l =
       let a = k.migration_sound in
-      let d = instance_sheet (delta m.S.schema m.F I) in
-      let D-valid = delta-valid (mapping-valid listed_kind s2 s1 f a.s_sound a.t_sound a.f_sound) I (instance-valid kinds m.T.schema i k.j_sound) k.fits in
-      let r = pi-accepted listed kinds s2 s3 g d e in
-      let u = known s2 d (λ n J. PiSound listed kinds s2 s3 g d n J × (P ≡ pi_result n J)) r.2.migration_sound.s_sound r.2.i_sound (r.2, r.3) a.s_sound (valid-lent-again built_in D-valid) in
-      chain-last m I k r.0.T r.0.F u.0 (subst (λ (X : Migrated). sigma_tables listed kinds s3 s4 h (instance_sheet X.tables) ≡ accepted M) u.1 l)
+      let d = instance_sheet (delta m.S m.F I) in
+      let D-valid = delta-valid (mapping-valid s2 s1 f a.s_sound a.t_sound a.f_sound) I (instance-valid m.T i k.j_sound) k.fits in
+      let r = pi-accepted s2 s3 g d e in
+      let u = known s2 d (λ n J. PiSound s2 s3 g d n J × (P ≡ pi_result n J)) r.2.migration_sound.s_sound r.2.i_sound (r.2, r.3) a.s_sound (valid-lent-again D-valid) in
+      chain-last m I k r.0.T r.0.F u.0 (subst (λ (X : Migrated). sigma_tables s3 s4 h (instance_sheet X.tables) ≡ accepted M) u.1 l)
 
   chain-accepted : {M : Migrated} → chain_tables ≡ accepted M → (q : Query) × (I : Instance) × QuerySound s1 s2 s3 s4 f g h i q I × (M ≡ query_result q I)
   chain-accepted e =
-      let a = bind-accepted (delta_tables listed kinds s2 s1 f i) _ e in
-      let b = bind-accepted (pi_tables listed kinds s2 s3 g (instance_sheet a.0.tables)) _ a.2 in
-      let d = delta-accepted listed kinds s2 s1 f i a.1 in
-      chain-later d.0 d.1 d.2 (subst (λ (X : Migrated). pi_tables listed kinds s2 s3 g (instance_sheet X.tables) ≡ accepted b.0) d.3 b.1) b.2
+      let a = bind-accepted (delta_tables s2 s1 f i) _ e in
+      let b = bind-accepted (pi_tables s2 s3 g (instance_sheet a.0.tables)) _ a.2 in
+      let d = delta-accepted s2 s1 f i a.1 in
+      chain-later d.0 d.1 d.2 (subst (λ (X : Migrated). pi_tables s2 s3 g (instance_sheet X.tables) ≡ accepted b.0) d.3 b.1) b.2
 
   chained-iff : (M : Migrated) → (query_tables s1 s2 s3 s4 f g h i ≡ accepted M) ↔ (chain_tables ≡ accepted M)
   chained-iff M = (

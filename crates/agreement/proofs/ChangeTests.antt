@@ -6,7 +6,8 @@ use mathlib.Core.List.{List, ◌++◌}
 use lib.ListN.{length, take, drop}
 use lib.Dec.{leb, ltb}
 use borrow.Author.Tests.{leb-true}
-use Rattle.meaning.specs.Formats.{Instance, kinds}
+use Rattle.meaning.specs.Category.{listed_category}
+use Rattle.meaning.specs.Formats.{Instance}
 use Rattle.meaning.specs.Views.{count}
 use Rattle.meaning.specs.Evenness.{even}
 use Rattle.meaning.specs.Calls.{Outcome, refused, accepted, ◌>>=◌, at, ensure_fits}
@@ -17,30 +18,30 @@ use Rattle.agreement.specs.Tests.{Refusal, Tests, done, test, then, Decides, hol
 use Rattle.agreement.specs.SheetTests.{row_sheet_tests}
 use Rattle.agreement.specs.CallTests.{fits_tests, run_tests, addition_tests, withdrawal_tests, change_tests, trays_tests, Results}
 use Rattle.agreement.proofs.Tests.{refused-not-accepted, accepted-same, decides-then, decides-ensure, decides-as, decides-giving}
-use Rattle.agreement.proofs.Refusals.{listed-tests, instance-decided, row-decided}
+use Rattle.agreement.proofs.Refusals.{instance-decided, row-decided}
 use Rattle.agreement.proofs.Outcomes.{migration-decided, fits-decided, is-written}
 
 -- ---- the run, then the change itself
 
 run-decided : (s t f i : List ℕ) → Decides (run_tests s t f i) (judge_run s t f i)
 run-decided s t f i =
-    decides-then (migration-decided listed-tests s t f) (λ m.
-    decides-then (instance-decided kinds 4 m.S.schema i) (λ I.
-    decides-giving (decides-ensure (even m.S m.T m.F) 12) (λ _. record { m = m; tables = I })))
+    decides-then (migration-decided s t f) (λ m.
+    decides-then (instance-decided 4 m.S i) (λ I.
+    decides-giving (decides-ensure (even (listed_category m.S) (listed_category m.T) m.F) 12) (λ _. record { m = m; tables = I })))
 
 -- an addition, after 18
 pub row-fits-decided : (x : Run) (c : ℕ) (row : List ℕ)
-    → Decides (then (row_sheet_tests 0 x.m.S.schema x.tables c row) (λ R. fits_tests (added x.m.S.schema x.tables R)))
-    (at 0 (judge_row x.m.S.schema x.tables c row) >>= λ R. ensure_fits (added x.m.S.schema x.tables R))
-row-fits-decided x c row = decides-then (row-decided 0 x.m.S.schema x.tables c row) (λ R. fits-decided (added x.m.S.schema x.tables R))
+    → Decides (then (row_sheet_tests 0 x.m.S x.tables c row) (λ R. fits_tests (added x.m.S x.tables R)))
+    (at 0 (judge_row x.m.S x.tables c row) >>= λ R. ensure_fits (added x.m.S x.tables R))
+row-fits-decided x c row = decides-then (row-decided 0 x.m.S x.tables c row) (λ R. fits-decided (added x.m.S x.tables R))
 
-addition-decided : (x : Run) (c : ℕ) (row : List ℕ) → Decides (addition_tests x c row) (addition x.m.S.schema x.tables c row)
-addition-decided x c row = decides-then (decides-ensure (ltb c x.m.S.schema.graph.nodes) 18) (λ _. row-fits-decided x c row)
+addition-decided : (x : Run) (c : ℕ) (row : List ℕ) → Decides (addition_tests x c row) (addition x.m.S x.tables c row)
+addition-decided x c row = decides-then (decides-ensure (ltb c x.m.S.graph.nodes) 18) (λ _. row-fits-decided x c row)
 
-withdrawal-decided : (x : Run) (c r : ℕ) → Decides (withdrawal_tests x c r) (withdrawal x.m.S.schema x.tables c r)
+withdrawal-decided : (x : Run) (c r : ℕ) → Decides (withdrawal_tests x c r) (withdrawal x.m.S x.tables c r)
 withdrawal-decided x c r =
-    decides-then (decides-ensure (ltb c x.m.S.schema.graph.nodes && ltb r (count x.tables c)) 18) (λ _.
-    decides-giving (decides-ensure (not (is_held x.m.S.schema x.tables c r)) 19) (λ _. withdrawn x.m.S.schema x.tables c r))
+    decides-then (decides-ensure (ltb c x.m.S.graph.nodes && ltb r (count x.tables c)) 18) (λ _.
+    decides-giving (decides-ensure (not (is_held x.m.S x.tables c r)) 19) (λ _. withdrawn x.m.S x.tables c r))
 
 -- whatever the change
 change-decided : {rs : List Refusal} {tests : Run → Tests Instance rs} {change : Run → Outcome Instance} (s t f i : List ℕ) → ((x : Run) → Decides (tests x) (change x))

@@ -11,7 +11,7 @@ use Rattle.theory.proofs.Mapping.{delta-is}
 use Rattle.meaning.specs.Lists.{sum_of}
 use Rattle.meaning.specs.Schema.{Schema, source, attribute_at}
 use Rattle.meaning.specs.Category.{Category}
-use Rattle.meaning.specs.Formats.{Mapping, Instance, max_rows, Kinds}
+use Rattle.meaning.specs.Formats.{Mapping, Instance, max_rows}
 use Rattle.meaning.specs.Views.{Shaped, schema_of, node_image, edge_image, attribute_image, mapping_of, count, rows, column, follow, instance_of}
 use Rattle.meaning.specs.Delta.{delta}
 use Rattle.agreement.proofs.Tables.{rows-sum}
@@ -65,6 +65,6 @@ module _ {S T : Category} {F : Mapping} (v : ValidMapping S T F) (J : Instance) 
   delta-rows shaped = sym (alike-rows delta-alike) ∙ rows-sum S.schema (delta S.schema F J) (delta-shaped shaped).tables
 
   -- where it has at most 512 rows
-  module _ {ks : Kinds} (i : ValidInstance ks T.schema J) (few : sum_of (delta S.schema F J).counts ≤ max_rows) where
-    pub delta-valid : ValidInstance ks S.schema (delta S.schema F J)
+  module _ (i : ValidInstance T.schema J) (few : sum_of (delta S.schema F J).counts ≤ max_rows) where
+    pub delta-valid : ValidInstance S.schema (delta S.schema F J)
     delta-valid = record { shaped = delta-shaped i.shaped; is = delta-instance i.is; few_rows = few }

@@ -19,43 +19,38 @@ use Rattle.theory.proofs.Matching.{matching-alike}
 use Rattle.theory.proofs.Transposition.{corresponds}
 use Rattle.meaning.specs.Lists.{sum_of}
 use Rattle.meaning.specs.Schema.{Schema}
-use Rattle.meaning.specs.Category.{Category}
+use Rattle.meaning.specs.Category.{listed_category}
 use Rattle.meaning.specs.Sheet.{sound}
-use Rattle.meaning.specs.Formats.{Mapping, Instance, Kinds, kinds, max_rows}
+use Rattle.meaning.specs.Formats.{Mapping, Instance, max_rows, kinds}
 use Rattle.meaning.specs.Views.{schema_of, mapping_of, count, instance_of}
 use Rattle.meaning.specs.Judge.{judge_instance}
-use Rattle.meaning.specs.SchemaKinds.{SchemaKind, listed}
 use Rattle.meaning.specs.Delta.{delta}
 use Rattle.meaning.specs.Sigma.{sigma}
 use Rattle.meaning.specs.Matching.{judge_matching}
-use Rattle.meaning.specs.Calls.{Outcome, refused, accepted, ◌>>=◌, Sides, sides, judge_pushed, judge_raw, raw_sheet, pushed_sheet, check_pushed, check_raw, pushed_to_raw, raw_to_pushed, in_tray}
-use Rattle.meaning.specs.OwnKinds.{Form, form_kinds, in_form, placed_in}
+use Rattle.meaning.specs.Calls.{Outcome, refused, accepted, ◌>>=◌, Sides, sides, judge_pushed, judge_raw, check_pushed, check_raw, pushed_to_raw, raw_to_pushed, in_tray}
 use Rattle.meaning.proofs.Examples.{vendor, operator, vendor_to_operator, run, book}
 use Rattle.agreement.specs.Demand3.{Accepts, Refuses, RefusesTray, meaning_answers, Provided, pushed_side, raw_side, Clauses, AllRefuse}
-use Rattle.agreement.specs.Categories.{IsKind}
 use Rattle.agreement.specs.Valid.{InRange, ValidMapping, ValidInstance}
 use Rattle.agreement.specs.Agrees.{Inputs}
 use Rattle.agreement.proofs.Tables.{rows-sum, matching-below}
-use Rattle.agreement.proofs.Accepted.{at-accepted, bind-accepted, SidesSound, sides-accepted, sides-accepts}
+use Rattle.agreement.proofs.Accepted.{at-accepted, SidesSound, sides-accepted, sides-accepts}
 use Rattle.agreement.proofs.Valid.{mapping-valid, instance-valid}
 use Rattle.agreement.proofs.Evenness.{even-iff}
 use Rattle.agreement.proofs.Delta.{delta-alike, delta-rows}
 use Rattle.agreement.proofs.Sigma.{sigma-is-sigma, sigma-valid}
 use Rattle.agreement.proofs.Agrees.{inputs}
 use Rattle.agreement.proofs.Matchings.{matching-sheet-judged, matching-judged-sheet}
-use Rattle.agreement.proofs.Categories.{listed_kind}
-use Rattle.agreement.proofs.OwnKinds.{in-form, placed-giving, form-accepted}
-use Rattle.agreement.proofs.Turning.{Matches, Reads, reads-placed, checks, Turned, turned_by, takes, turns, turns-back, comes, Numbers, meets-same}
+use Rattle.agreement.proofs.Turning.{Matches, Reads, checks, Turned, turned_by, takes, turns, turns-back, comes, Numbers, meets-same}
 
-module _ {K : SchemaKind} (kind : IsKind K) {ks : Kinds} {s t f i j : List ℕ} (x : Provided K ks s t f i j) where
+module _ {s t f i j : List ℕ} (x : Provided s t f i j) where
   abbrev S : Schema
-  S = x.S.schema
+  S = x.S
 
   abbrev T : Schema
-  T = x.T.schema
+  T = x.T
 
   abbrev F : theory_mapping.Mapping
-  F = mapping_of x.S.schema x.T.schema x.F
+  F = mapping_of x.S x.T x.F
 
   abbrev Run : theory.Instance ℕ
   Run = instance_of x.run
@@ -65,24 +60,24 @@ module _ {K : SchemaKind} (kind : IsKind K) {ks : Kinds} {s t f i j : List ℕ} 
 
   -- both migrated tables, as the calls make them
   abbrev pushed : Instance
-  pushed = sigma x.S x.T x.F x.run
+  pushed = sigma (listed_category x.S) (listed_category x.T) x.F x.run
 
   abbrev pulled : Instance
-  pulled = delta x.S.schema x.F x.book
+  pulled = delta x.S x.F x.book
 
-  F-valid : ValidMapping x.S x.T x.F
-  F-valid = mapping-valid kind s t f x.s_accepted x.t_accepted x.f_accepted
+  F-valid : ValidMapping (listed_category x.S) (listed_category x.T) x.F
+  F-valid = mapping-valid s t f x.s_accepted x.t_accepted x.f_accepted
 
   F-is : theory_mapping.IsMapping F
   F-is = F-valid.is
 
-  run-valid : ValidInstance ks x.S.schema x.run
-  run-valid = instance-valid ks S i x.run_accepted
+  run-valid : ValidInstance x.S x.run
+  run-valid = instance-valid S i x.run_accepted
 
-  book-valid : ValidInstance ks x.T.schema x.book
-  book-valid = instance-valid ks T j x.book_accepted
+  book-valid : ValidInstance x.T x.book
+  book-valid = instance-valid T j x.book_accepted
 
-  pushed-valid : ValidInstance ks x.T.schema pushed
+  pushed-valid : ValidInstance x.T pushed
   pushed-valid = sigma-valid F-valid x.f_even run-valid
 
   pulled-few : sum_of pulled.counts ≤ max_rows
@@ -96,7 +91,7 @@ module _ {K : SchemaKind} (kind : IsKind K) {ks : Kinds} {s t f i j : List ℕ} 
   abbrev tables : Sides
   tables = record { m = record { S = x.S; T = x.T; F = x.F }; run = x.run; book = x.book; pushed = pushed; pulled = pulled }
 
-  tables_sound : SidesSound K ks s t f i j tables
+  tables_sound : SidesSound s t f i j tables
   tables_sound = record {
     migration_sound = record { s_sound = x.s_accepted; t_sound = x.t_accepted; f_sound = x.f_accepted };
     run_sound = x.run_accepted;
@@ -108,8 +103,8 @@ module _ {K : SchemaKind} (kind : IsKind K) {ks : Kinds} {s t f i j : List ℕ} 
     pulled_fits = pulled-few;
   }
 
-  after-sides : {A : Type 0} (next : Sides → Outcome A) → (sides K ks s t f i j >>= next) ≡ next tables
-  after-sides next = ap (λ (o : Outcome Sides). o >>= next) (sides-accepts K ks s t f i j tables_sound)
+  after-sides : {A : Type 0} (next : Sides → Outcome A) → (sides s t f i j >>= next) ≡ next tables
+  after-sides next = ap (λ (o : Outcome Sides). o >>= next) (sides-accepts s t f i j tables_sound)
 
   -- ---- the lists of each side, read
 
@@ -151,13 +146,19 @@ module _ {K : SchemaKind} (kind : IsKind K) {ks : Kinds} {s t f i j : List ℕ} 
   -- ---- the turnings
 
   transposed : Corresponds F Run (instance_of pushed) Book
-  transposed = corresponds (InRange ks) F F-is x.f_even Run (instance_of pushed) Book run-valid.is is_sigma book-valid.is
+  transposed = corresponds (InRange kinds) F F-is x.f_even Run (instance_of pushed) Book run-valid.is is_sigma book-valid.is
 
   abbrev turned_raw : List ℕ → List ℕ
   turned_raw = to_raw F Run (instance_of pushed)
 
   abbrev turned_pushed : List ℕ → List ℕ
   turned_pushed = to_pushed F Run (instance_of pushed)
+
+  to-raw : Turned (pushed_side x) (raw_side x) (pushed_to_raw s t f i j) turned_raw
+  to-raw = turned_by pushed-reads (λ k. after-sides _) (λ l m. let n = (pushed-matches l).1 m in (transposed.to_raw_matches l n.whole).0 n)
+
+  to-pushed : Turned (raw_side x) (pushed_side x) (raw_to_pushed s t f i j) turned_pushed
+  to-pushed = turned_by raw-reads (λ k. after-sides _) (λ l m. (pushed-matches (turned_pushed l)).0 ((transposed.to_pushed_matches l m.whole).0 m))
 
   raw-again : (l : List ℕ) → Matches (pushed_side x) l → turned_pushed (turned_raw l) ≡ l
   raw-again l m = transposed.to_raw_back l ((pushed-matches l).1 m).whole
@@ -183,51 +184,33 @@ module _ {K : SchemaKind} (kind : IsKind K) {ks : Kinds} {s t f i j : List ℕ} 
     below = λ l m. matching-below S x.run pulled l pulled-few ((raw-matches l).1 m);
   }
 
-  -- ---- the calls in a form that judges by this list
-
-  module _ (form : Form) (judges : form_kinds form ≡ sound ks) where
-    after-form : {A : Type 0} (read : Sides → Outcome (List ℕ)) (g : Sides → List ℕ → A)
-        → in_form form (λ ks. sides K ks s t f i j >>= λ y. read y >>= λ l. accepted (g y l)) ≡ (placed_in form (read tables) >>= λ l. accepted (g tables l))
-    after-form read g =
-        in-form form judges (λ ks. sides K ks s t f i j >>= λ y. read y >>= λ l. accepted (g y l))
-        ∙ ap (placed_in form) (after-sides (λ y. read y >>= λ l. accepted (g y l)))
-        ∙ placed-giving form (read tables) (g tables)
-
-    to-raw : Turned (pushed_side x) (raw_side x) (λ k. in_form form (λ ks. pushed_to_raw K ks s t f i j k)) turned_raw
-    to-raw = turned_by (reads-placed form pushed-reads) (λ k. after-form (λ y. judge_pushed y k) raw_sheet) (λ l m. let n = (pushed-matches l).1 m in (transposed.to_raw_matches l n.whole).0 n)
-
-    to-pushed : Turned (raw_side x) (pushed_side x) (λ k. in_form form (λ ks. raw_to_pushed K ks s t f i j k)) turned_pushed
-    to-pushed = turned_by (reads-placed form raw-reads) (λ k. after-form (λ y. judge_raw y k) pushed_sheet) (λ l m. (pushed-matches (turned_pushed l)).0 ((transposed.to_pushed_matches l m.whole).0 m))
-
-    pub demand3 : Clauses x (meaning_answers K form s t f i j)
-    demand3 = record {
-      pushed_checked = checks (reads-placed form pushed-reads) (λ k. in_form form (λ ks. check_pushed K ks s t f i j k)) (λ k. after-form (λ y. judge_pushed y k) (λ y l. tt));
-      raw_checked = checks (reads-placed form raw-reads) (λ k. in_form form (λ ks. check_raw K ks s t f i j k)) (λ k. after-form (λ y. judge_raw y k) (λ y l. tt));
-      pushed_taken = takes to-raw;
-      raw_taken = takes to-pushed;
-      pushed_turned = turns to-raw;
-      raw_turned = turns to-pushed;
-      raw_comes = comes to-raw to-pushed raw-again pushed-again;
-      pushed_comes = comes to-pushed to-raw pushed-again raw-again;
-      pushed_back = turns-back to-raw to-pushed raw-again;
-      raw_back = turns-back to-pushed to-raw pushed-again;
-      pushed_meets = meets-same to-raw pushed-numbers raw-numbers (λ l m c h y r.
-          transposed.to_raw_meets l c h y r ∙ ap (λ (n : ℕ). get_or l (n + place F Run c y) 0) (sym (first-same (F.node c) (F-is.Node-in c h))));
-      raw_meets = meets-same to-pushed raw-numbers pushed-numbers (λ l m c h y r.
-          ap (λ (n : ℕ). get_or (turned_pushed l) (n + place F Run c y) 0) (first-same (F.node c) (F-is.Node-in c h)) ∙ transposed.to_pushed_meets l c h y r);
-    }
+  pub demand3 : Clauses x (meaning_answers s t f i j)
+  demand3 = record {
+    pushed_checked = checks pushed-reads (check_pushed s t f i j) (λ k. after-sides _);
+    raw_checked = checks raw-reads (check_raw s t f i j) (λ k. after-sides _);
+    pushed_taken = takes to-raw;
+    raw_taken = takes to-pushed;
+    pushed_turned = turns to-raw;
+    raw_turned = turns to-pushed;
+    raw_comes = comes to-raw to-pushed raw-again pushed-again;
+    pushed_comes = comes to-pushed to-raw pushed-again raw-again;
+    pushed_back = turns-back to-raw to-pushed raw-again;
+    raw_back = turns-back to-pushed to-raw pushed-again;
+    pushed_meets = meets-same to-raw pushed-numbers raw-numbers (λ l m c h y r.
+        transposed.to_raw_meets l c h y r ∙ ap (λ (n : ℕ). get_or l (n + place F Run c y) 0) (sym (first-same (F.node c) (F-is.Node-in c h))));
+    raw_meets = meets-same to-pushed raw-numbers pushed-numbers (λ l m c h y r.
+        ap (λ (n : ℕ). get_or (turned_pushed l) (n + place F Run c y) 0) (first-same (F.node c) (F-is.Node-in c h)) ∙ transposed.to_pushed_meets l c h y r);
+  }
 
 -- ---- the provisos hold exactly when the tests before the matching sheet are passed
 
 -- accepted sheets, an even mapping and a book whose Delta fits meet them, with Sigma of the run
-module _ {K : SchemaKind} (kind : IsKind K) {ks : Kinds} {s t f i : List ℕ} {S T : Category} {F : Mapping} {I : Instance} (x : Inputs K ks s t f i S T S F I)
-    (E : theory_mapping.Even (mapping_of S.schema T.schema F)) where
-  abbrev pub provided : (j : List ℕ) {J : Instance} → judge_instance ks T.schema j ≡ sound J
-      → theory.rows (schema_of S.schema) (theory_mapping.delta (mapping_of S.schema T.schema F) (instance_of J)) ≤ max_rows → Provided K ks s t f i j
+module _ {s t f i : List ℕ} {S T : Schema} {F : Mapping} {I : Instance} (x : Inputs s t f i S T S F I) (E : theory_mapping.Even (mapping_of S T F)) where
+  abbrev pub provided : (j : List ℕ) {J : Instance} → judge_instance T j ≡ sound J → theory.rows (schema_of S) (theory_mapping.delta (mapping_of S T F) (instance_of J)) ≤ max_rows → Provided s t f i j
   provided j {J} book fits =
-      let v = mapping-valid kind s t f x.s_accepted x.t_accepted x.f_accepted in
-      let w = instance-valid ks S.schema i x.i_accepted in
-      let P = sigma S T F I in
+      let v = mapping-valid s t f x.s_accepted x.t_accepted x.f_accepted in
+      let w = instance-valid S i x.i_accepted in
+      let P = sigma (listed_category S) (listed_category T) F I in
       let p = sigma-valid v E w in
       record {
         S = S;
@@ -243,41 +226,38 @@ module _ {K : SchemaKind} (kind : IsKind K) {ks : Kinds} {s t f i : List ℕ} {S
         run_accepted = x.i_accepted;
         book_accepted = book;
         pushed_is = sigma-is-sigma v E w;
-        pushed_accepted = rw (rows-sum T.schema P p.shaped.tables) p.few_rows;
+        pushed_accepted = rw (rows-sum T P p.shaped.tables) p.few_rows;
         pulled_accepted = fits;
       }
 
-module _ {K : SchemaKind} (kind : IsKind K) (s t f i j : List ℕ) where
-  accepted-provided : (ks : Kinds) → Accepts (sides K ks s t f i j) → Provided K ks s t f i j
-  accepted-provided ks (y, e) =
-      let h = sides-accepted K ks s t f i j e in
+module _ (s t f i j : List ℕ) where
+  accepted-provided : Accepts (sides s t f i j) → Provided s t f i j
+  accepted-provided (y, e) =
+      let h = sides-accepted s t f i j e in
       let m = h.migration_sound in
-      let v = mapping-valid kind s t f m.s_sound m.t_sound m.f_sound in
-      let w = instance-valid ks y.m.T.schema j h.book_sound in
-      provided kind (inputs ks y.m.S m h.run_sound) ((even-iff v).0 h.is-even) j h.book_sound (rw (delta-rows v y.book w.shaped) (rw h.pulled_is at h.pulled_fits))
+      let v = mapping-valid s t f m.s_sound m.t_sound m.f_sound in
+      let w = instance-valid y.m.T j h.book_sound in
+      provided (inputs m h.run_sound) ((even-iff v).0 h.is-even) j h.book_sound (rw (delta-rows v y.book w.shaped) (rw h.pulled_is at h.pulled_fits))
 
-  pub provided-iff : (ks : Kinds) → Provided K ks s t f i j ↔ Accepts (sides K ks s t f i j)
-  provided-iff ks = (λ x. (tables kind x, sides-accepts K ks s t f i j (tables_sound kind x)), accepted-provided ks)
+  pub provided-iff : Provided s t f i j ↔ Accepts (sides s t f i j)
+  provided-iff = (λ x. (tables x, sides-accepts s t f i j (tables_sound x)), accepted-provided)
 
   -- where they do not hold, all four calls refuse, whatever list is lent
-  module _ (form : Form) (unprovided : (ks : Kinds) → form_kinds form ≡ sound ks → Provided K ks s t f i j → ⊥) where
-    refused-then : {A : Type 0} (next : Sides → Outcome A) → Refuses (in_form form (λ ks. sides K ks s t f i j >>= next))
-    refused-then {A} next = go (in_form form call) refl
+  module _ (unprovided : Provided s t f i j → ⊥) where
+    sides-refused : Refuses (sides s t f i j)
+    sides-refused = go (sides s t f i j) refl
       where
-        call : Kinds → Outcome A
-        call ks = sides K ks s t f i j >>= next
-
-        go : (o : Outcome A) → in_form form call ≡ o → Refuses o
+        go : (o : Outcome Sides) → sides s t f i j ≡ o → Refuses o
         go (refused n p) e = (n, p, refl)
-        go (accepted a) e =
-            let r = form-accepted form call e in
-            let y = bind-accepted (sides K r.0 s t f i j) next r.2 in
-            absurd (unprovided r.0 r.1 (accepted-provided r.0 (y.0, y.1)))
+        go (accepted y) e = absurd (unprovided (accepted-provided (y, e)))
+
+    refused-then : {A : Type 0} (next : Sides → Outcome A) → Refuses (sides s t f i j >>= next)
+    refused-then next = let r = sides-refused in (r.0, r.1, ap (λ (o : Outcome Sides). o >>= next) r.2)
 
     refused-tray : (tray : List ℕ) {o : Outcome (List ℕ)} → Refuses o → RefusesTray tray (in_tray tray o)
     refused-tray tray r = record { refuses = (r.0, r.1, ap (λ (o : Outcome (List ℕ)). (in_tray tray o).answer) r.2); unchanged = ap (λ (o : Outcome (List ℕ)). (in_tray tray o).tray) r.2 }
 
-    pub unprovided-refused : AllRefuse (meaning_answers K form s t f i j)
+    pub unprovided-refused : AllRefuse (meaning_answers s t f i j)
     unprovided-refused = record {
       pushed_refused = λ k. refused-then _;
       raw_refused = λ k. refused-then _;
@@ -286,6 +266,6 @@ module _ {K : SchemaKind} (kind : IsKind K) (s t f i j : List ℕ) where
     }
 
 -- the sheets of case 3 of document 01 meet the provisos
-pub case3-provided : Provided listed kinds vendor operator vendor_to_operator run book
+pub case3-provided : Provided vendor operator vendor_to_operator run book
 unfolding field bit tail_ok
-case3-provided = accepted-provided listed_kind vendor operator vendor_to_operator run book kinds (_, refl)
+case3-provided = accepted-provided vendor operator vendor_to_operator run book (_, refl)

@@ -11,12 +11,11 @@ use Rattle.bits.specs.Field.{Bytes, bytes_for}
 use Rattle.theory.specs.Schema.{IsSchema}
 use Rattle.meaning.specs.Lists.{sum_of}
 use Rattle.meaning.specs.Schema.{Schema, source, attribute_at}
-use Rattle.meaning.specs.Category.{Category}
-use Rattle.meaning.specs.Formats.{Mapping, Instance, kinds, instance_sheet}
+use Rattle.meaning.specs.Category.{Category, listed_category}
+use Rattle.meaning.specs.Formats.{Mapping, Instance, instance_sheet}
 use Rattle.meaning.specs.Views.{Shaped, schema_of, count}
 use Rattle.meaning.specs.Sigma.{fibre, rows_in, sigma}
 use Rattle.meaning.specs.Calls.{accepted, sigma_tables, sheet_of}
-use Rattle.meaning.specs.SchemaKinds.{listed}
 use Rattle.meaning.specs.Rows.{added}
 use Rattle.meaning.specs.Changes.{Run, Sheets, sheets_of, addition_sheets, withdrawal_sheets, Trays, in_trays, add_row}
 use Rattle.meaning.proofs.Lists.{everywhere}
@@ -24,7 +23,6 @@ use Rattle.meaning.proofs.Written.{instance-judged-sheet, instance-sheet-length}
 use Rattle.agreement.specs.CallTests.{Results}
 use Rattle.agreement.specs.Changes.{GivesBack}
 use Rattle.agreement.proofs.Joined.{map-upto-get_or}
-use Rattle.agreement.proofs.Ranges.{built_in}
 use Rattle.agreement.proofs.Valid.{valid-lent-again}
 use Rattle.agreement.proofs.Accepted.{RunSound, run_accepted, run-accepts}
 use Rattle.agreement.proofs.ChangeTests.{accepted-trays}
@@ -76,7 +74,7 @@ added-below S {I} R i c = elim (dec_lt c S.graph.nodes) [
 
 module _ {s t f i : List ℕ} {c : ℕ} {row : List ℕ} {x : Run} {R : Instance} (k : AdditionSound s t f i c row x R) where
   abbrev J : Instance
-  J = added x.m.S.schema x.tables R
+  J = added x.m.S x.tables R
 
   sound-run : RunSound s t f i x
   sound-run = run_accepted s t f i k.run_accepted
@@ -85,12 +83,12 @@ module _ {s t f i : List ℕ} {c : ℕ} {row : List ℕ} {x : Run} {R : Instance
   withdrawn-again : withdrawal_sheets s t f (instance_sheet J) c (count x.tables c) ≡ accepted (sheets_of x x.tables)
   withdrawn-again =
       let h = sound-run in
-      let is = row_read x.m.S.schema c k.table_in row k.row_read in
+      let is = row_read x.m.S c k.table_in row k.row_read in
       let after : Run = record { m = x.m; tables = J } in
       let more = (adds-table (run-formed h) (run-valid h) k.table_in is).one_more in
       rw (
-        run-accepts s t f (instance_sheet J) {x = after} (record { migration_sound = h.migration_sound; tables_sound = valid-lent-again built_in k.lendable.valid; is-even = h.is-even }),
-        lt-ltb c x.m.S.schema.graph.nodes k.table_in,
+        run-accepts s t f (instance_sheet J) {x = after} (record { migration_sound = h.migration_sound; tables_sound = valid-lent-again k.lendable.valid; is-even = h.is-even }),
+        lt-ltb c x.m.S.graph.nodes k.table_in,
         lt-ltb (count x.tables c) (count J c) (omega arith),
         added-unheld (run-formed h) (run-valid h) k.table_in is,
       ) (ap (λ (I : Instance). accepted (sheets_of x I)) (added-withdrawn (run-formed h) (run-valid h) k.table_in is))
@@ -100,7 +98,7 @@ module _ {s t f i : List ℕ} {c : ℕ} {row : List ℕ} {x : Run} {R : Instance
   pushed-below =
       let h = sound-run in
       sheet-below (run-mapped h).is.t_is (pushed-valid h (run-valid h)).shaped (pushed-valid h k.lendable.valid).shaped
-      (sigma-below x.m.S x.m.T x.m.F x.tables J (added-below x.m.S.schema R (run-valid h).shaped))
+      (sigma-below (listed_category x.m.S) (listed_category x.m.T) x.m.F x.tables J (added-below x.m.S R (run-valid h).shaped))
 
 -- the front of a list of bytes
 bytes-taken : (n : ℕ) (l : List ℕ) → Bytes l → Bytes (take n l)
@@ -112,7 +110,7 @@ both-in : (run pushed : List ℕ) (x : Sheets) → length x.run ≤ length run �
 both-in run pushed x h k = rw (le-leb (length x.run) (length run) h, le-leb (length x.pushed) (length pushed) k)
 
 module _ (s t f run : List ℕ) (n c : ℕ) (row pushed : List ℕ) (bytes : Bytes run) {a b : ℕ} {x : Run} {R : Instance} (k : AdditionSound s t f (take n run) c row x R)
-    (r : Results run pushed (addition_sheets s t f (take n run) c row) a b) (w : r.sheets ≡ sheets_of x (added x.m.S.schema x.tables R)) where
+    (r : Results run pushed (addition_sheets s t f (take n run) c row) a b) (w : r.sheets ≡ sheets_of x (added x.m.S x.tables R)) where
   abbrev changed : Trays
   changed = add_row s t f run n c row pushed
 
@@ -122,9 +120,9 @@ module _ (s t f run : List ℕ) (n c : ℕ) (row pushed : List ℕ) (bytes : Byt
 
   -- the run's sheet was that of its tables, and is now that of the changed ones
   first-sheet : take n run ≡ again.run
-  first-sheet = instance-judged-sheet kinds x.m.S.schema (take n run) (bytes-taken n run bytes) (sound-run k).tables_sound
+  first-sheet = instance-judged-sheet x.m.S (take n run) (bytes-taken n run bytes) (sound-run k).tables_sound
 
-  changed-sheet : take a changed.run ≡ instance_sheet (added x.m.S.schema x.tables R)
+  changed-sheet : take a changed.run ≡ instance_sheet (added x.m.S x.tables R)
   changed-sheet = ap (λ (m : ℕ). take m changed.run) (sym r.run_size) ∙ r.run_written.front ∙ ap (λ (y : Sheets). y.run) w
 
   -- both trays have room
@@ -143,7 +141,7 @@ module _ (s t f run : List ℕ) (n c : ℕ) (row pushed : List ℕ) (bytes : Byt
         first = x.tables;
         first_accepted = h.tables_sound;
         first_pushed = again.pushed;
-        first_pushed_by_call = ap (λ (i : List ℕ). sheet_of (sigma_tables listed kinds s t f i)) first-sheet ∙ ap sheet_of (pushed_by_call h (run-valid h));
+        first_pushed_by_call = ap (λ (i : List ℕ). sheet_of (sigma_tables s t f i)) first-sheet ∙ ap sheet_of (pushed_by_call h (run-valid h));
         back =
             ap (λ (i : List ℕ). in_trays changed.run changed.pushed (withdrawal_sheets s t f i c (count x.tables c))) changed-sheet
             ∙ ap (in_trays changed.run changed.pushed) (withdrawn-again k)

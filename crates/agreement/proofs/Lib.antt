@@ -17,8 +17,6 @@ pub mod Refusals
 pub mod Outcomes
 pub mod ChangeTests
 pub mod Accepted
-pub mod OwnKinds
-pub mod RangesAlike
 pub mod Valid
 pub mod Joined
 pub mod Rows

@@ -16,15 +16,14 @@ use Rattle.meaning.specs.Category.{Category, equal}
 use Rattle.meaning.specs.Formats.{Mapping}
 use Rattle.meaning.specs.Views.{IsListed, listed, schema_of, node_image, edge_image, attribute_image, path_image, mapping_of}
 use Rattle.meaning.specs.Sheet.{sound}
-use Rattle.meaning.specs.Judge.{is_well_formed, edge_image_fits, attribute_image_fits, images_fit, keeps_equations}
+use Rattle.meaning.specs.Judge.{is_well_formed, judge_mapping, edge_image_fits, attribute_image_fits, images_fit, keeps_equations}
 use Rattle.meaning.proofs.Tabulate.{and_both}
 use Rattle.meaning.proofs.Lists.{and_intro, all_in, all_of, all-upto, upto_all, all-places, places-all}
-use Rattle.agreement.specs.Categories.{IsCategory, IsKind}
+use Rattle.agreement.specs.Categories.{IsCategory}
 use Rattle.agreement.specs.Valid.{ImagesFit, KeepsEquations}
 use Rattle.agreement.proofs.Paths.{schema_is, same-starts, path-iff}
 use Rattle.agreement.proofs.Categories.{equal-iff}
-use Rattle.meaning.specs.SchemaKinds.{SchemaKind, judge_mapping}
-use Rattle.meaning.proofs.Facts.{mapping-passed}
+use Rattle.meaning.proofs.Facts.{mapping-facts}
 
 -- ---- what test 7 gives
 
@@ -174,6 +173,5 @@ module _ (S T : Category) (F : Mapping) (s : IsCategory S) (t : IsCategory T) (n
 
 -- ---- of accepted sheets
 
-pub mapping-judged : {K : SchemaKind} → IsKind K → {S T : Category} → IsCategory S → IsCategory T → (f : List ℕ) {F : Mapping} → judge_mapping K S T f ≡ sound F
-    → IsMapping (mapping_of S.schema T.schema F)
-mapping-judged {K} k {S} {T} s t f {F} e = let p = mapping-passed K S T f e in mapping-is S T F s t (k.images S f p.0).nodes p.1 p.2
+pub mapping-judged : {S T : Category} → IsCategory S → IsCategory T → (f : List ℕ) {F : Mapping} → judge_mapping S T f ≡ sound F → IsMapping (mapping_of S.schema T.schema F)
+mapping-judged {S} {T} s t f {F} e = let m = mapping-facts S T f e in mapping-is S T F s t m.nodes m.fits m.keeps

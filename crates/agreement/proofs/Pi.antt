@@ -17,7 +17,7 @@ use Rattle.theory.proofs.Pi.{pi-is, pi_one}
 use Rattle.meaning.specs.Lists.{position, same_list, sum_of}
 use Rattle.meaning.specs.Schema.{source, target, attribute_at}
 use Rattle.meaning.specs.Category.{Category}
-use Rattle.meaning.specs.Formats.{Mapping, Instance, max_rows, Kinds}
+use Rattle.meaning.specs.Formats.{Mapping, Instance, max_rows}
 use Rattle.meaning.specs.Views.{Shaped, schema_of, attribute_image, mapping_of, count, link, column, value, instance_of}
 use Rattle.meaning.specs.Pi.{Component, components, families, restrict, value_at, pi}
 use Rattle.meaning.proofs.Lists.{same_list-iff, get_d_map, position_in, position-passes}
@@ -180,6 +180,6 @@ module _ {S T : Category} {F : Mapping} (v : ValidMapping S T F) (I : Instance) 
     pi-instance I-is = pi-is v.is pi-by paired I-is
 
     -- where it has at most 512 rows
-    module _ {ks : Kinds} (i : ValidInstance ks S.schema I) (few : sum_of (pi S T F I).counts ≤ max_rows) where
-      pub pi-valid : ValidInstance ks T.schema (pi S T F I)
+    module _ (i : ValidInstance S.schema I) (few : sum_of (pi S T F I).counts ≤ max_rows) where
+      pub pi-valid : ValidInstance T.schema (pi S T F I)
       pi-valid = record { shaped = pi-shaped; is = pi-instance i.is; few_rows = few }

@@ -12,11 +12,11 @@ use Rattle.theory.specs.Mapping.{Even, Bijective}
 use Rattle.theory.proofs.Instance.{alike-sym}
 use Rattle.theory.proofs.Query.{pi-alike}
 use Rattle.meaning.specs.Lists.{sum_of}
+use Rattle.meaning.specs.Category.{listed_category}
 use Rattle.meaning.specs.Sheet.{sound}
-use Rattle.meaning.specs.Formats.{Instance, kinds, max_rows, instance_sheet}
+use Rattle.meaning.specs.Formats.{Instance, max_rows, instance_sheet}
 use Rattle.meaning.specs.Views.{instance_of}
-use Rattle.meaning.specs.Judge.{judge_instance}
-use Rattle.meaning.specs.SchemaKinds.{judge_mapping, listed}
+use Rattle.meaning.specs.Judge.{judge_schema, judge_mapping, judge_instance}
 use Rattle.meaning.specs.Delta.{delta}
 use Rattle.meaning.specs.Sigma.{sigma}
 use Rattle.meaning.specs.Pi.{pi}
@@ -28,8 +28,6 @@ use Rattle.agreement.specs.Query.{mapping_f, mapping_g, mapping_h, QueryInputs, 
 use Rattle.agreement.proofs.Tests.{refused-not-accepted, accepted-same, own-refusal, later-refusal, either-refusal, later-result, not-refused, Settled, settled-next, settled-apart, settled-result}
 use Rattle.agreement.proofs.Outcomes.{pulled, joined, pushed, query_result, paired, narrow, evenly, few, in_turn, in-turn}
 use Rattle.agreement.proofs.Accepted.{bind-accepted, sheet-accepted, ensure-accepted, delta-accepts, sigma-accepts, pi-accepts}
-use Rattle.agreement.proofs.Ranges.{built_in}
-use Rattle.agreement.proofs.Categories.{listed_kind}
 use Rattle.agreement.proofs.Valid.{mapping-valid, instance-valid, valid-lent-again}
 use Rattle.agreement.proofs.Evenness.{even-iff}
 use Rattle.agreement.proofs.Delta.{delta-alike, delta-valid}
@@ -42,25 +40,25 @@ use Rattle.agreement.proofs.Agrees.{lendable}
 -- ---- accepted sheets: valid mappings, and valid tables as far as they fit
 
 module _ {s1 s2 s3 s4 f g h i : List ℕ} {q : Query} {I : Instance} (x : QueryInputs s1 s2 s3 s4 f g h i q I) where
-  F-valid : ValidMapping q.S2 q.S1 q.F
-  F-valid = mapping-valid listed_kind s2 s1 f x.s2_accepted x.s1_accepted x.f_accepted
+  F-valid : ValidMapping (listed_category q.S2) (listed_category q.S1) q.F
+  F-valid = mapping-valid s2 s1 f x.s2_accepted x.s1_accepted x.f_accepted
 
-  G-valid : ValidMapping q.S2 q.S3 q.G
-  G-valid = mapping-valid listed_kind s2 s3 g x.s2_accepted x.s3_accepted x.g_accepted
+  G-valid : ValidMapping (listed_category q.S2) (listed_category q.S3) q.G
+  G-valid = mapping-valid s2 s3 g x.s2_accepted x.s3_accepted x.g_accepted
 
-  H-valid : ValidMapping q.S3 q.S4 q.H
-  H-valid = mapping-valid listed_kind s3 s4 h x.s3_accepted x.s4_accepted x.h_accepted
+  H-valid : ValidMapping (listed_category q.S3) (listed_category q.S4) q.H
+  H-valid = mapping-valid s3 s4 h x.s3_accepted x.s4_accepted x.h_accepted
 
-  run-valid : ValidInstance kinds q.S1.schema I
-  run-valid = instance-valid kinds q.S1.schema i x.run_accepted
+  run-valid : ValidInstance q.S1 I
+  run-valid = instance-valid q.S1 i x.run_accepted
 
-  pulled-valid : sum_of (pulled q I).counts ≤ max_rows → ValidInstance kinds q.S2.schema (pulled q I)
+  pulled-valid : sum_of (pulled q I).counts ≤ max_rows → ValidInstance q.S2 (pulled q I)
   pulled-valid = delta-valid F-valid I run-valid
 
-  joined-valid : paired q ≡ true → sum_of (pulled q I).counts ≤ max_rows → sum_of (joined q I).counts ≤ max_rows → ValidInstance kinds q.S3.schema (joined q I)
+  joined-valid : paired q ≡ true → sum_of (pulled q I).counts ≤ max_rows → sum_of (joined q I).counts ≤ max_rows → ValidInstance q.S3 (joined q I)
   joined-valid p a b = pi-valid G-valid (pulled q I) ((bijective-iff G-valid).0 p) (pulled-valid a) b
 
-  pushed-valid : paired q ≡ true → evenly q ≡ true → sum_of (pulled q I).counts ≤ max_rows → sum_of (joined q I).counts ≤ max_rows → ValidInstance kinds q.S4.schema (pushed q I)
+  pushed-valid : paired q ≡ true → evenly q ≡ true → sum_of (pulled q I).counts ≤ max_rows → sum_of (joined q I).counts ≤ max_rows → ValidInstance q.S4 (pushed q I)
   pushed-valid p e a b = sigma-valid H-valid ((even-iff H-valid).0 e) (joined-valid p a b)
 
 -- ---- what an accepted query has passed, and the other way
@@ -74,16 +72,16 @@ pub record QuerySound (s1 s2 s3 s4 f g h i : List ℕ) (q : Query) (I : Instance
   pub joined_fits : sum_of (joined q I).counts ≤ max_rows
 
 module _ (s1 s2 s3 s4 f g h i : List ℕ) where
-  query-sheets : {q : Query} {I : Instance} → judge_query s1 s2 s3 s4 f g h ≡ accepted q → judge_instance kinds q.S1.schema i ≡ sound I → QueryInputs s1 s2 s3 s4 f g h i q I
+  query-sheets : {q : Query} {I : Instance} → judge_query s1 s2 s3 s4 f g h ≡ accepted q → judge_instance q.S1 i ≡ sound I → QueryInputs s1 s2 s3 s4 f g h i q I
   query-sheets {q} {I} e r =
-      let a = sheet-accepted 1 (listed.judge_category s1) _ e in
-      let b = sheet-accepted 2 (listed.judge_category s2) _ a.2 in
-      let c = sheet-accepted 3 (listed.judge_category s3) _ b.2 in
-      let d = sheet-accepted 4 (listed.judge_category s4) _ c.2 in
-      let u = sheet-accepted 5 (judge_mapping listed b.0 a.0 f) _ d.2 in
-      let v = sheet-accepted 6 (judge_mapping listed b.0 c.0 g) _ u.2 in
-      let w = sheet-accepted 7 (judge_mapping listed c.0 d.0 h) _ v.2 in
-      subst (λ (q : Query). judge_instance kinds q.S1.schema i ≡ sound I → QueryInputs s1 s2 s3 s4 f g h i q I) (accepted-same w.2) (λ k. record {
+      let a = sheet-accepted 1 (judge_schema s1) _ e in
+      let b = sheet-accepted 2 (judge_schema s2) _ a.2 in
+      let c = sheet-accepted 3 (judge_schema s3) _ b.2 in
+      let d = sheet-accepted 4 (judge_schema s4) _ c.2 in
+      let u = sheet-accepted 5 (judge_mapping (listed_category b.0) (listed_category a.0) f) _ d.2 in
+      let v = sheet-accepted 6 (judge_mapping (listed_category b.0) (listed_category c.0) g) _ u.2 in
+      let w = sheet-accepted 7 (judge_mapping (listed_category c.0) (listed_category d.0) h) _ v.2 in
+      subst (λ (q : Query). judge_instance q.S1 i ≡ sound I → QueryInputs s1 s2 s3 s4 f g h i q I) (accepted-same w.2) (λ k. record {
         s1_accepted = a.1;
         s2_accepted = b.1;
         s3_accepted = c.1;
@@ -98,7 +96,7 @@ module _ (s1 s2 s3 s4 f g h i : List ℕ) where
   query-accepted e =
       let a = bind-accepted (judge_query s1 s2 s3 s4 f g h) _ e in
       let q = a.0 in
-      let b = sheet-accepted 8 (judge_instance kinds q.S1.schema i) _ a.2 in
+      let b = sheet-accepted 8 (judge_instance q.S1 i) _ a.2 in
       let I = b.0 in
       let r = passed q I b.2 in
       (q, I, record { inputs = query-sheets a.1 b.1; is-bijective = r.0; few_components = r.1; is-even = r.2; pulled_fits = r.3; joined_fits = r.4 }, r.5)
@@ -136,32 +134,32 @@ module _ (s1 s2 s3 s4 f g h i : List ℕ) where
   -- ---- the tables are the theory's, and those of the public calls
 
   module _ {q : Query} {I : Instance} (k : QuerySound s1 s2 s3 s4 f g h i q I) where
-    pulled_by_call : delta_tables listed kinds s2 s1 f i ≡ accepted (record { schema = q.S2.schema; tables = pulled q I })
+    pulled_by_call : delta_tables s2 s1 f i ≡ accepted (record { schema = q.S2; tables = pulled q I })
     pulled_by_call =
         let x = k.inputs in
-        delta-accepts listed kinds s2 s1 f i (record {
+        delta-accepts s2 s1 f i (record {
           migration_sound = record { s_sound = x.s2_accepted; t_sound = x.s1_accepted; f_sound = x.f_accepted };
           j_sound = x.run_accepted;
           fits = k.pulled_fits;
         })
 
-    joined_by_call : pi_tables listed kinds s2 s3 g (instance_sheet (pulled q I)) ≡ accepted (record { schema = q.S3.schema; tables = joined q I })
+    joined_by_call : pi_tables s2 s3 g (instance_sheet (pulled q I)) ≡ accepted (record { schema = q.S3; tables = joined q I })
     joined_by_call =
         let x = k.inputs in
-        pi-accepts listed kinds s2 s3 g (instance_sheet (pulled q I)) (record {
+        pi-accepts s2 s3 g (instance_sheet (pulled q I)) (record {
           migration_sound = record { s_sound = x.s2_accepted; t_sound = x.s3_accepted; f_sound = x.g_accepted };
-          i_sound = valid-lent-again built_in (pulled-valid x k.pulled_fits);
+          i_sound = valid-lent-again (pulled-valid x k.pulled_fits);
           is-bijective = k.is-bijective;
           few_components = k.few_components;
           fits = k.joined_fits;
         })
 
-    pushed_by_call : sigma_tables listed kinds s3 s4 h (instance_sheet (joined q I)) ≡ accepted (query_result q I)
+    pushed_by_call : sigma_tables s3 s4 h (instance_sheet (joined q I)) ≡ accepted (query_result q I)
     pushed_by_call =
         let x = k.inputs in
-        sigma-accepts listed kinds s3 s4 h (instance_sheet (joined q I)) (record {
+        sigma-accepts s3 s4 h (instance_sheet (joined q I)) (record {
           migration_sound = record { s_sound = x.s3_accepted; t_sound = x.s4_accepted; f_sound = x.h_accepted };
-          i_sound = valid-lent-again built_in (joined-valid x k.is-bijective k.pulled_fits k.joined_fits);
+          i_sound = valid-lent-again (joined-valid x k.is-bijective k.pulled_fits k.joined_fits);
           is-even = k.is-even;
           fits = (pushed-valid x k.is-bijective k.is-even k.pulled_fits k.joined_fits).few_rows;
         })
@@ -185,9 +183,9 @@ module _ (s1 s2 s3 s4 f g h i : List ℕ) where
             is-bijective = bijective;
             is-even = even;
             is_query = record { is_delta = delta-alike (F-valid x) I; is_pi = pi-is-pi (G-valid x) (pulled q I) bijective; is_sigma = sigma-is-sigma (H-valid x) even P-valid };
-            pulled_lendable = lendable built_in (F-valid x).is.s_is (pulled-valid x k.pulled_fits);
-            joined_lendable = lendable built_in (G-valid x).is.t_is P-valid;
-            lendable = lendable built_in (H-valid x).is.t_is (sigma-valid (H-valid x) even P-valid);
+            pulled_lendable = lendable (F-valid x).is.s_is (pulled-valid x k.pulled_fits);
+            joined_lendable = lendable (G-valid x).is.t_is P-valid;
+            lendable = lendable (H-valid x).is.t_is (sigma-valid (H-valid x) even P-valid);
             pulled_by_call = pulled_by_call k;
             joined_by_call = joined_by_call k;
             pushed_by_call = pushed_by_call k;
@@ -204,25 +202,25 @@ fits-same J k l h = go (few J) refl
 
 module _ {s1 s2 s3 s4 f g h i : List ℕ} {q : Query} {I : Instance} (x : QueryInputs s1 s2 s3 s4 f g h i q I) (p : paired q ≡ true) (e : evenly q ≡ true) where
   pub query-sigma-fits : migrate_query q I ≡ (do
-    D ← ensure_fits (delta q.S2.schema q.F I)
-    P ← ensure_fits (pi q.S2 q.S3 q.G D)
-    accepted (record { schema = q.S4.schema; tables = sigma q.S3 q.S4 q.H P }))
+    D ← ensure_fits (delta q.S2 q.F I)
+    P ← ensure_fits (pi (listed_category q.S2) (listed_category q.S3) q.G D)
+    accepted (record { schema = q.S4; tables = sigma (listed_category q.S3) (listed_category q.S4) q.H P }))
   query-sigma-fits =
       fits-same (pulled q I) (λ D. ensure_fits (next D) >>= fitted) (λ D. ensure_fits (next D) >>= given) (λ a.
       fits-same (joined q I) fitted given (λ b.
       ap (λ (o : Outcome Instance). o >>= result) (sigma-never-overfull (H-valid x) ((even-iff (H-valid x)).0 e) (joined-valid x p a b))))
     where
       next : Instance → Instance
-      next D = pi q.S2 q.S3 q.G D
+      next D = pi (listed_category q.S2) (listed_category q.S3) q.G D
 
       result : Instance → Outcome Migrated
-      result Q = accepted (record { schema = q.S4.schema; tables = Q })
+      result Q = accepted (record { schema = q.S4; tables = Q })
 
       given : Instance → Outcome Migrated
-      given P = result (sigma q.S3 q.S4 q.H P)
+      given P = result (sigma (listed_category q.S3) (listed_category q.S4) q.H P)
 
       fitted : Instance → Outcome Migrated
-      fitted P = ensure_fits (sigma q.S3 q.S4 q.H P) >>= result
+      fitted P = ensure_fits (sigma (listed_category q.S3) (listed_category q.S4) q.H P) >>= result
 
 -- ---- the call: 13, then 14, then 12, then 15
 

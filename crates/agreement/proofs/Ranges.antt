@@ -1,4 +1,4 @@
--- Values of a kind, by any list of kinds: those of a well-formed list fit their field; and what the built-in list has.
+-- Values of a kind, by any list of kinds; and what the built-in list has.
 use Prim.Native.Nat.{ℕ, zero, suc, ◌^◌, ◌<◌, ◌≤◌}
 use mathlib.Core.Path.{◌≡◌, refl}
 use mathlib.Core.Bool.{Bool, true, false, ◌&&◌}
@@ -7,12 +7,11 @@ use native.Mathlib.Omega.{arith}
 use lib.ListN.{get_or, drop}
 use lib.Dec.{leb}
 use borrow.Author.Tests.{leb-true, leb-false, le-leb}
-use Rattle.meaning.specs.Formats.{Range, from_to, within, Kinds, kinds, range_of, in_range}
-use Rattle.meaning.specs.Judge.{in_order}
+use Rattle.meaning.specs.Lists.{all}
+use Rattle.meaning.specs.Formats.{Range, from_to, within, Kinds, kinds, in_range}
 use Rattle.meaning.proofs.Tabulate.{and_both}
 use Rattle.meaning.proofs.Lists.{everywhere, all-places}
 use Rattle.agreement.specs.Valid.{InRange}
-use Rattle.agreement.specs.OwnKinds.{WellFormedKinds}
 
 pub in-range-iff : (ks : Kinds) (k v : ℕ) → (in_range ks k v ≡ true) ↔ InRange ks k v
 in-range-iff ks k v =
@@ -29,26 +28,19 @@ beyond r v e = go (leb r.smallest v) refl e
     go true p e = inr (leb-false v r.largest e)
     go false p e = inl (leb-false r.smallest v p)
 
--- a value of a well-formed list fits a field of 32 bits
-pub value_below : {ks : Kinds} → WellFormedKinds ks → (k v : ℕ) → InRange ks k v → v < 2 ^ 32
-value_below w k v is = omega (arith, is.1, w.in_field k)
-
--- ---- the built-in list
-
+-- a value fits a field of 32 bits, by any list of kinds whose largest values do
 abbrev fits : Range → Bool
 fits r = leb r.largest 4294967295
 
-pub built_in : WellFormedKinds kinds
-built_in = record {
-  all_kinds = refl;
-  fit = record {
-    ranges = λ k. leb-true (range_of kinds k).smallest (range_of kinds k).largest (everywhere (λ r. in_order r ≡ true) kinds (from_to 0 0) refl (all-places in_order kinds (from_to 0 0) refl) k);
-    unused = refl;
-  };
-  in_field = λ k.
-      let h = leb-true (range_of kinds k).largest 4294967295 (everywhere (λ r. fits r ≡ true) kinds (from_to 0 0) refl (all-places fits kinds (from_to 0 0) refl) k) in
-      omega arith;
-}
+value_below : (ks : Kinds) → all fits ks ≡ true → (k v : ℕ) → InRange ks k v → v < 2 ^ 32
+value_below ks e k v is =
+    let h = leb-true (get_or ks k (from_to 0 0)).largest 4294967295 (everywhere (λ r. fits r ≡ true) ks (from_to 0 0) refl (all-places fits ks (from_to 0 0) e) k) in
+    omega (arith, is.1, h)
+
+-- ---- the built-in list
+
+pub built-in-below : (k v : ℕ) → InRange kinds k v → v < 2 ^ 32
+built-in-below = value_below kinds refl
 
 -- every kind but the clock has 0
 pub zero_in : (k : ℕ) → (k ≡ 2 → ⊥) → InRange kinds k 0

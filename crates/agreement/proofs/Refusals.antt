@@ -1,5 +1,5 @@
 -- Each kind of sheet is decided by its tests (specs/SheetTests.antt): the judge's refusal is that of the first test that fails. Readers refuse
--- with 1, 2 and 3 only, so that 6 is given exactly for too many paths, 10 exactly for a value off scale, and 20 exactly for bad kinds.
+-- with 1, 2 and 3 only, so that 6 is given exactly for too many paths, and 10 exactly for a value off scale.
 use Prim.Native.Nat.{ℕ, zero, suc, ◌+◌, ◌*◌, ◌<◌, ◌≤◌}
 use mathlib.Core.Path.{◌≡◌, refl, sym, ap, ◌∙◌, subst}
 use mathlib.Core.Bool.{Bool, true, false, cond, not}
@@ -12,15 +12,13 @@ use borrow.Author.Tests.{leb-false, lt-leb}
 use Rattle.bits.specs.Field as bits
 use Rattle.meaning.specs.Lists.{sum_of}
 use Rattle.meaning.specs.Schema.{Graph, Schema, is_path, all_paths, has_loop}
-use Rattle.meaning.specs.Category.{Category, listed_category}
+use Rattle.meaning.specs.Category.{Category}
 use Rattle.meaning.specs.Sheet.{Read, fails, reads, Reader, after, ◌>>=◌, give, times, in_turn, field, ensure, finish, Judged, faulty, sound, judged, on_sheet}
-use Rattle.meaning.specs.Formats.{Counts, Mapping, Instance, max_paths, max_rows, counts_in_limits, read_edges, read_path, read_counts, read_edge, read_attribute, read_equation, read_lists, read_schema, read_mapping, read_links, read_values, read_tables, read_instance, read_range, read_kinds, Kinds, kinds, kind_count}
+use Rattle.meaning.specs.Formats.{Counts, Mapping, Instance, max_paths, max_rows, counts_in_limits, read_edges, read_path, read_counts, read_edge, read_attribute, read_equation, read_lists, read_schema, read_mapping, read_links, read_values, read_tables, read_instance, kinds}
 use Rattle.meaning.specs.Judge as judge
-use Rattle.meaning.specs.Judge.{is_well_formed, has_few_paths, test_schema, judge_schema, judge_path, test_instance, judge_instance, images_fit, keeps_equations, links_in_range, values_in_range, obeys_equations, kinds_fit, judge_kinds}
+use Rattle.meaning.specs.Judge.{is_well_formed, has_few_paths, test_schema, judge_schema, judge_path, judge_mapping, test_instance, judge_instance, images_fit, keeps_equations, links_in_range, values_in_range, obeys_equations}
 use Rattle.meaning.specs.Matching.{is_matching, judge_matching}
-use Rattle.meaning.specs.SchemaKinds.{judge_mapping, listed}
-use Rattle.meaning.specs.Calls as calls
-use Rattle.meaning.specs.Calls.{refused, accepted, at}
+use Rattle.meaning.specs.Calls.{refused, at}
 use Rattle.meaning.specs.Rows.{one_row, row_links_in_range, row_obeys_equations, test_row, judge_row}
 use Rattle.meaning.proofs.Lists.{no_bool}
 use Rattle.meaning.proofs.Readers.{sound-same}
@@ -29,8 +27,8 @@ use Rattle.agreement.specs.Paths.{Crowded}
 use Rattle.agreement.specs.Valid.{OffScale}
 use Rattle.agreement.proofs.Instances.{links-iff, beyond-iff}
 use Rattle.agreement.specs.Tests.{Refusal, Tests, done, test, Decides, holds}
-use Rattle.agreement.proofs.Tests.{decides-as, decides-giving}
-use Rattle.agreement.specs.SheetTests.{row_sheet_tests, matching_tests, instance_tests, read_links_values, listed_tests, mapping_tests, AreTests, read_images, schema_tests, path_tests, kinds_tests, what_read}
+use Rattle.agreement.proofs.Tests.{decides-as}
+use Rattle.agreement.specs.SheetTests.{row_sheet_tests, matching_tests, instance_tests, read_links_values, mapping_tests, read_images, schema_tests, path_tests, what_read}
 
 -- ---- which refusals a reader can give
 
@@ -236,7 +234,7 @@ images-finished S s p =
     after-after s (times (length S.graph.edges) read_edges s p) _ _ _ (λ es p.
     after-after s (times (length S.attributes) (field 4) s p) _ _ _ (λ as' p. refl)))
 
-mapping-decided : (place : ℕ) (S T : Category) (s : List ℕ) → Decides (mapping_tests listed_tests place S T s) (at place (judge_mapping listed S T s))
+pub mapping-decided : (place : ℕ) (S T : Category) (s : List ℕ) → Decides (mapping_tests place S T s) (at place (judge_mapping S T s))
 mapping-decided place S T s =
     decides-as (ap (λ (r : Read Mapping). at place (judge.◌>>=◌ (judged r) tests)) (images-finished S.schema s 0)) (
     decides-read place (cuts-images S.schema) s 0 finished tests (λ F q.
@@ -247,19 +245,6 @@ mapping-decided place S T s =
   where
     tests : Mapping → Judged Mapping
     tests F = judge.◌>>=◌ (judge.ensure (images_fit S.schema T.schema F) 7) (λ _. judge.◌>>=◌ (judge.ensure (keeps_equations S T F) 8) (λ _. sound F))
-
--- ---- a kind of schema
-
--- what is made of a judged sheet
-at-given : {A B : Type 0} (place : ℕ) (j : Judged A) (f : A → B) → calls.◌>>=◌ (at place j) (λ a. accepted (f a)) ≡ at place (judge.◌>>=◌ j (λ a. sound (f a)))
-at-given place (faulty n) f = refl
-at-given place (sound a) f = refl
-
-pub listed-tests : AreTests listed listed_tests
-listed-tests = record {
-  schemas = λ place s. decides-as (at-given place (judge_schema s) listed_category) (decides-giving (schema-decided place s) listed_category);
-  mappings = mapping-decided;
-}
 
 -- ---- instance
 cuts-links : (S : Schema) (counts : List ℕ) → Cuts (read_links S counts)
@@ -274,22 +259,22 @@ cuts-links_values S counts = refuses-bind (cuts-links S counts) (λ ls. refuses-
 links_values-finished : (S : Schema) (counts s : List ℕ) (p : ℕ) → after s (read_links_values S counts s p) finished ≡ read_tables S counts s p
 links_values-finished S counts s p = after-after s (read_links S counts s p) _ _ _ (λ ls p. after-after s (read_values S counts s p) _ _ _ (λ vs p. refl))
 
-pub instance-decided : (ks : Kinds) (place : ℕ) (S : Schema) (s : List ℕ) → Decides (instance_tests ks place S s) (at place (judge_instance ks S s))
-instance-decided ks place S s =
+pub instance-decided : (place : ℕ) (S : Schema) (s : List ℕ) → Decides (instance_tests place S s) (at place (judge_instance S s))
+instance-decided place S s =
     decides-read place (refuses-times S.graph.nodes (cuts-field 10)) s 0 _ tests (λ counts p.
     decides-reader place 3 (leb (sum_of counts) max_rows) s p _ tests (
     decides-as (ap (λ (r : Read Instance). at place (judge.◌>>=◌ (judged r) tests)) (links_values-finished S counts s p)) (
     decides-read place (cuts-links_values S counts) s p finished tests (λ I q.
     decides-reader place 2 (bits.tail_ok s q) s q _ tests (
     decides-judge place 9 (links_in_range S I) _ (
-    decides-judge place 10 (values_in_range ks S I) _ (
+    decides-judge place 10 (values_in_range kinds S I) _ (
     decides-judge place 11 (obeys_equations S I) _ (
     decides-sound place I))))))))
   where
     tests : Instance → Judged Instance
     tests I =
         judge.◌>>=◌ (judge.ensure (links_in_range S I) 9) (λ _.
-        judge.◌>>=◌ (judge.ensure (values_in_range ks S I) 10) (λ _.
+        judge.◌>>=◌ (judge.ensure (values_in_range kinds S I) 10) (λ _.
         judge.◌>>=◌ (judge.ensure (obeys_equations S I) 11) (λ _.
         sound I)))
 
@@ -313,20 +298,20 @@ ranged-iff I true true false = (λ e. let k = faulty-same e in absurd (omega ari
 ranged-iff I true true true = (λ e. absurd (sound-not-faulty e), λ h. absurd (no_bool h.1))
 
 -- 10 is given exactly where the sheet reads as an instance whose links are in range, with a value below its kind's smallest or above its largest
-pub off-scale-iff : (ks : Kinds) (S : Schema) (s : List ℕ) → (judge_instance ks S s ≡ faulty 10) ↔ ((I : Instance) × OffScale ks S s I)
-off-scale-iff ks S s =
-    let g = given-iff (low-instance S) (test_instance ks S) 10 (omega arith) s in (
+pub off-scale-iff : (S : Schema) (s : List ℕ) → (judge_instance S s ≡ faulty 10) ↔ ((I : Instance) × OffScale S s I)
+off-scale-iff S s =
+    let g = given-iff (low-instance S) (test_instance S) 10 (omega arith) s in (
       λ f.
           let x = g.0 f in
           let I = x.0 in
           let is = instance-shaped S s x.1 in
-          let t = (ranged-iff I (links_in_range S I) (values_in_range ks S I) (obeys_equations S I)).0 x.2 in
-          (I, record { reads = x.1; links = (links-iff ks S I is).0 t.0; value = (beyond-iff ks S I is).0 t.1 }),
+          let t = (ranged-iff I (links_in_range S I) (values_in_range kinds S I) (obeys_equations S I)).0 x.2 in
+          (I, record { reads = x.1; links = (links-iff kinds S I is).0 t.0; value = (beyond-iff kinds S I is).0 t.1 }),
       λ x.
           let I = x.0 in
           let is = instance-shaped S s x.1.reads in
-          let t = ranged-iff I (links_in_range S I) (values_in_range ks S I) (obeys_equations S I) in
-          g.1 (I, x.1.reads, t.1 ((links-iff ks S I is).1 x.1.links, (beyond-iff ks S I is).1 x.1.value)),
+          let t = ranged-iff I (links_in_range S I) (values_in_range kinds S I) (obeys_equations S I) in
+          g.1 (I, x.1.reads, t.1 ((links-iff kinds S I is).1 x.1.links, (beyond-iff kinds S I is).1 x.1.value)),
     )
 
 -- ---- matching
@@ -347,31 +332,3 @@ row-decided place S I c s =
     decides-judge place 10 (values_in_range kinds S R) _ (
     decides-judge place 11 (row_obeys_equations S I c R) _ (
     decides-sound place R))))))
-
--- ---- kinds
-cuts-range : Cuts read_range
-cuts-range = refuses-bind (cuts-field 32) (λ a. refuses-bind (cuts-field 32) (λ b. refuses-give))
-
-pub kinds_decided : (place : ℕ) (k : List ℕ) → Decides (kinds_tests place k) (at place (judge_kinds k))
-kinds_decided place k =
-    decides-read place (refuses-times kind_count cuts-range) k 0 _ _ (λ ks q.
-    decides-reader place 2 (bits.tail_ok k q) k q _ _ (
-    decides-judge place 20 (kinds_fit ks) _ (
-    decides-sound place ks)))
-
--- ---- refusal 20
-
-low-kinds : RefusesIn (λ n. n < 4) read_kinds
-low-kinds = refuses-bind (low-cuts (refuses-times kind_count cuts-range)) (λ ks. refuses-bind low-finish (λ _. refuses-give))
-
-fitted-iff : (ks : Kinds) (b : Bool) → (judge.◌>>=◌ (judge.ensure b 20) (λ _. sound ks) ≡ faulty 20) ↔ (b ≡ false)
-fitted-iff ks true = (λ e. absurd (sound-not-faulty e), λ h. absurd (no_bool h))
-fitted-iff ks false = (λ e. refl, λ h. refl)
-
--- 20 is given exactly where the sheet reads as a list of kinds that do not fit
-pub bad-kinds-iff : (k : List ℕ) → (judge_kinds k ≡ faulty 20) ↔ ((ks : Kinds) × (on_sheet read_kinds k ≡ sound ks) × (kinds_fit ks ≡ false))
-bad-kinds-iff k =
-    let g = given-iff low-kinds (λ ks. judge.◌>>=◌ (judge.ensure (kinds_fit ks) 20) (λ _. sound ks)) 20 (omega arith) k in (
-      λ f. let x = g.0 f in (x.0, x.1, (fitted-iff x.0 (kinds_fit x.0)).0 x.2),
-      λ x. g.1 (x.0, x.1, (fitted-iff x.0 (kinds_fit x.0)).1 x.2),
-    )

@@ -127,7 +127,7 @@ edge-apart {S} formed e h t =
     let b = ap (height S.graph) t in
     omega arith
 
-module _ {S : Schema} {I : Instance} (formed : WellFormed S) (v : ValidInstance kinds S I) {c : ℕ} (c-in : c < S.graph.nodes) {R : Instance} (row : IsRow S c R) where
+module _ {S : Schema} {I : Instance} (formed : WellFormed S) (v : ValidInstance S I) {c : ℕ} (c-in : c < S.graph.nodes) {R : Instance} (row : IsRow S c R) where
   s_is : IsSchema (schema_of S)
   s_is = schema_is S formed.fits
 
@@ -235,7 +235,7 @@ module _ {S : Schema} {I : Instance} (formed : WellFormed S) (v : ValidInstance 
   row-tests-decide = record { test_9 = links-decide; test_10 = values-decide; test_11 = equations-decide }
 
   -- where all tests pass, 15 included, the tables are a valid instance
-  pub added-valid : row_links_in_range S I R ≡ true → values_in_range kinds S R ≡ true → row_obeys_equations S I c R ≡ true → sum_of (added S I R).counts ≤ max_rows → ValidInstance kinds S (added S I R)
+  pub added-valid : row_links_in_range S I R ≡ true → values_in_range kinds S R ≡ true → row_obeys_equations S I c R ≡ true → sum_of (added S I R).counts ≤ max_rows → ValidInstance S (added S I R)
   added-valid links values equations few = record {
     shaped = J-shaped;
     is = instance-is kinds S (added S I R) J-shaped (links-decide ∙ links) (values-decide ∙ values) (equations-decide ∙ equations);

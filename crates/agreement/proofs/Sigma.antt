@@ -14,7 +14,7 @@ use Rattle.theory.proofs.Sigma.{sigma-is, sigma-rows}
 use Rattle.meaning.specs.Lists.{concat_map, sum_of}
 use Rattle.meaning.specs.Schema.{source, target, attribute_at, end}
 use Rattle.meaning.specs.Category.{Category}
-use Rattle.meaning.specs.Formats.{Mapping, Instance, max_rows, Kinds}
+use Rattle.meaning.specs.Formats.{Mapping, Instance, max_rows, kinds}
 use Rattle.meaning.specs.Views.{Shaped, schema_of, node_image, mapping_of, count, link, column, value, follow, instance_of}
 use Rattle.meaning.specs.Sigma.{fibre, rows_in, first_row, lift, links_along, attribute_over, sigma}
 use Rattle.meaning.specs.Calls.{accepted, ensure_fits}
@@ -45,7 +45,7 @@ module _ (S T : Category) (F : Mapping) (I : Instance) where
   links_from-length : (e c : ℕ) → length (links_from e c) ≡ count I c
   links_from-length e c = map-upto-length (λ r. first_row F I (end S.schema.graph (lift S T F c e)) + follow I (lift S T F c e).edges r) (count I c)
 
-module _ {S T : Category} {F : Mapping} (v : ValidMapping S T F) (E : Even (mapping_of S.schema T.schema F)) {ks : Kinds} {I : Instance} (i : ValidInstance ks S.schema I) where
+module _ {S T : Category} {F : Mapping} (v : ValidMapping S T F) (E : Even (mapping_of S.schema T.schema F)) {I : Instance} (i : ValidInstance S.schema I) where
   column_from-length : (b : ℕ) → b < length T.schema.attributes → (c : ℕ) → c < S.schema.graph.nodes → node_image F c ≡ (attribute_at T.schema b).node → length (column_from S T F I b c) ≡ count I c
   column_from-length b h c l e =
       let o = attribute_over-is v E c l b h (sym e) in
@@ -94,14 +94,14 @@ module _ {S T : Category} {F : Mapping} (v : ValidMapping S T F) (E : Even (mapp
   }
 
   -- Sigma is an instance of T: links and values in range, and all path equations
-  sigma-instance : IsInstance (InRange ks) (schema_of T.schema) (instance_of (sigma S T F I))
+  sigma-instance : IsInstance (InRange kinds) (schema_of T.schema) (instance_of (sigma S T F I))
   sigma-instance = sigma-is v.is E i.is sigma-is-sigma
 
   -- as many rows as the run, so that refusal 15 never arises
   pub sigma-total : sum_of (sigma S T F I).counts ≡ sum_of I.counts
   sigma-total = sym (rows-sum T.schema (sigma S T F I) sigma-shaped.tables) ∙ sigma-rows v.is sigma-is-sigma ∙ rows-sum S.schema I i.shaped.tables
 
-  pub sigma-valid : ValidInstance ks T.schema (sigma S T F I)
+  pub sigma-valid : ValidInstance T.schema (sigma S T F I)
   sigma-valid = record { shaped = sigma-shaped; is = sigma-instance; few_rows = rw sigma-total i.few_rows }
 
   pub sigma-never-overfull : ensure_fits (sigma S T F I) ≡ accepted (sigma S T F I)

@@ -17,7 +17,7 @@ use Rattle.theory.proofs.Schema.{path-start}
 use Rattle.theory.proofs.Matching.{homomorphism-within, homomorphism-same}
 use Rattle.meaning.specs.Lists.{upto, any}
 use Rattle.meaning.specs.Schema.{Schema, source, target, attribute_at}
-use Rattle.meaning.specs.Formats.{Instance, Kinds, kinds}
+use Rattle.meaning.specs.Formats.{Instance}
 use Rattle.meaning.specs.Views.{Shaped, schema_of, count, link, column, value, follow, link_column}
 use Rattle.meaning.specs.Rows.{added, at_table, without, moved_down, withdrawn, is_held}
 use Rattle.meaning.proofs.Tabulate.{and_both}
@@ -61,7 +61,7 @@ held_by {S} {I} i c x = (
     test e = eqb (target S.graph e) c && any (eqb x) (link_column I e)
 
 -- 19 is given exactly for a row to which some link leads
-pub held-iff : {ks : Kinds} {S : Schema} {I : Instance} → ValidInstance ks S I → (c x : ℕ) → (is_held S I c x ≡ true) ↔ Held S I c x
+pub held-iff : {S : Schema} {I : Instance} → ValidInstance S I → (c x : ℕ) → (is_held S I c x ≡ true) ↔ Held S I c x
 held-iff v = held_by v.shaped
 
 -- ---- a column without row x, where t says that the column is of its table
@@ -231,13 +231,13 @@ fewer : (t : Bool) (n : ℕ) → cond t (n - 1) n ≤ n
 fewer true n = omega arith
 fewer false n = omega arith
 
-module _ {ks : Kinds} {S : Schema} {I : Instance} (formed : WellFormed S) (v : ValidInstance ks S I) where
+module _ {S : Schema} {I : Instance} (formed : WellFormed S) (v : ValidInstance S I) where
   -- "withdrawing takes a row out and moves later rows of that table down by one, links included"
   pub withdraws-table : (c x : ℕ) → c < S.graph.nodes → x < count I c → (Held S I c x → ⊥) → Withdraws S I c x (withdrawn S I c x)
   withdraws-table c x c-in x_in free = withdraws (schema_is S formed.fits) v.shaped c-in x_in free
 
   -- the tables without a row that is not held are a valid instance
-  pub withdrawn-valid : {c x : ℕ} → c < S.graph.nodes → x < count I c → is_held S I c x ≡ false → ValidInstance ks S (withdrawn S I c x)
+  pub withdrawn-valid : {c x : ℕ} → c < S.graph.nodes → x < count I c → is_held S I c x ≡ false → ValidInstance S (withdrawn S I c x)
   withdrawn-valid {c} {x} c-in x_in t =
       let s_is = schema_is S formed.fits in
       let i = v.shaped in
@@ -294,7 +294,7 @@ skip-old true x r h = rw (lt-leb x r (h refl))
 skip-old false x r h = refl
 
 -- I is J without its last row
-adds-withdraws : {ks : Kinds} {S : Schema} {I J R : Instance} {c : ℕ} → WellFormed S → ValidInstance ks S I → Adds S I c R J → Withdraws S J c (count I c) I
+adds-withdraws : {S : Schema} {I J R : Instance} {c : ℕ} → WellFormed S → ValidInstance S I → Adds S I c R J → Withdraws S J c (count I c) I
 adds-withdraws {S} {I} {c = c} formed v a = record {
   one_less = sym a.one_more;
   others = λ d h n. sym (a.others d h n);
@@ -302,7 +302,7 @@ adds-withdraws {S} {I} {c = c} formed v a = record {
   shaped = v.shaped;
 }
 
-module _ {S : Schema} {I : Instance} (formed : WellFormed S) (v : ValidInstance kinds S I) {c : ℕ} (c-in : c < S.graph.nodes) {R : Instance} (row : IsRow S c R) where
+module _ {S : Schema} {I : Instance} (formed : WellFormed S) (v : ValidInstance S I) {c : ℕ} (c-in : c < S.graph.nodes) {R : Instance} (row : IsRow S c R) where
   s_is : IsSchema (schema_of S)
   s_is = schema_is S formed.fits
 

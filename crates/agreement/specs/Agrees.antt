@@ -11,12 +11,11 @@ use Rattle.theory.specs.Sigma.{IsSigma}
 use Rattle.theory.specs.Pi.{Sorted, IsComponents, IsPi}
 use Rattle.meaning.specs.Schema.{Path, Schema, end, height}
 use Rattle.meaning.specs.PathEquality.{class_of, first_path}
-use Rattle.meaning.specs.Category.{Category, equal, listed_category}
+use Rattle.meaning.specs.Category.{equal, listed_category}
 use Rattle.meaning.specs.Sheet.{sound}
-use Rattle.meaning.specs.Formats.{Mapping, Instance, Kinds, max_components, max_rows, path_sheet, instance_sheet}
+use Rattle.meaning.specs.Formats.{Mapping, Instance, max_components, max_rows, path_sheet, instance_sheet}
 use Rattle.meaning.specs.Views.{schema_of, mapping_of, instance_of}
-use Rattle.meaning.specs.Judge.{judge_path, judge_schema, judge_instance}
-use Rattle.meaning.specs.SchemaKinds.{SchemaKind, judge_mapping}
+use Rattle.meaning.specs.Judge.{judge_path, judge_schema, judge_mapping, judge_instance}
 use Rattle.meaning.specs.Calls.{refused, accepted, path_question, path_chain, Migrated, delta_tables, sigma_tables, pi_tables, in_tray}
 use Rattle.agreement.specs.Paths.{IsHeight, EqualPaths, Before, ListsPaths, FirstEqual}
 use Rattle.agreement.specs.Valid.{ValidInstance}
@@ -59,51 +58,51 @@ pub record PathAnswers (s p q : List ℕ) (S : Schema) (P Q : Path) : Type 0 whe
 
 -- ---- migrated tables: what the theory says they are, valid, and read back from their own sheets
 
-pub record Lendable (ks : Kinds) (S : Schema) (I : Instance) : Type 0 where
-  pub valid : ValidInstance ks S I
+pub record Lendable (S : Schema) (I : Instance) : Type 0 where
+  pub valid : ValidInstance S I
   -- all path equations: equal paths lead each row to the same row
   pub obeys : (n : ℕ) (p q : List ℕ) → IsPath (schema_of S) n p → Chain (schema_of S) n p q
       → (x : ℕ) → x < (instance_of I).count n → follow (instance_of I).link p x ≡ follow (instance_of I).link q x
-  pub lent_again : judge_instance ks S (instance_sheet I) ≡ sound I
+  pub lent_again : judge_instance S (instance_sheet I) ≡ sound I
 
--- of a kind of schema and a list of kinds: accepted sheets s, t, f over which a migration was made, and the instance i of R
-pub record Inputs (K : SchemaKind) (ks : Kinds) (s t f i : List ℕ) (S T R : Category) (F : Mapping) (I : Instance) : Type 0 where
-  pub s_accepted : K.judge_category s ≡ sound S
-  pub t_accepted : K.judge_category t ≡ sound T
-  pub f_accepted : judge_mapping K S T f ≡ sound F
-  pub i_accepted : judge_instance ks R.schema i ≡ sound I
+-- accepted sheets s, t, f over which a migration was made, and the instance i of the schema R
+pub record Inputs (s t f i : List ℕ) (S T R : Schema) (F : Mapping) (I : Instance) : Type 0 where
+  pub s_accepted : judge_schema s ≡ sound S
+  pub t_accepted : judge_schema t ≡ sound T
+  pub f_accepted : judge_mapping (listed_category S) (listed_category T) f ≡ sound F
+  pub i_accepted : judge_instance R i ≡ sound I
 
-pub record DeltaAgrees (K : SchemaKind) (ks : Kinds) (s t f j : List ℕ) (M : Migrated) : Type 0 where
-  pub S : Category
-  pub T : Category
+pub record DeltaAgrees (s t f j : List ℕ) (M : Migrated) : Type 0 where
+  pub S : Schema
+  pub T : Schema
   pub F : Mapping
   pub J : Instance
-  pub inputs : Inputs K ks s t f j S T T F J
-  pub schema_is : M.schema ≡ S.schema
-  pub is_delta : Alike (schema_of S.schema) (instance_of M.tables) (theory_mapping.delta (mapping_of S.schema T.schema F) (instance_of J))
-  pub lendable : Lendable ks S.schema M.tables
+  pub inputs : Inputs s t f j S T T F J
+  pub schema_is : M.schema ≡ S
+  pub is_delta : Alike (schema_of S) (instance_of M.tables) (theory_mapping.delta (mapping_of S T F) (instance_of J))
+  pub lendable : Lendable S M.tables
 
-pub record SigmaAgrees (K : SchemaKind) (ks : Kinds) (s t f i : List ℕ) (M : Migrated) : Type 0 where
-  pub S : Category
-  pub T : Category
+pub record SigmaAgrees (s t f i : List ℕ) (M : Migrated) : Type 0 where
+  pub S : Schema
+  pub T : Schema
   pub F : Mapping
   pub I : Instance
-  pub inputs : Inputs K ks s t f i S T S F I
-  pub schema_is : M.schema ≡ T.schema
-  pub is-even : Even (mapping_of S.schema T.schema F)
-  pub is_sigma : IsSigma (mapping_of S.schema T.schema F) (instance_of I) (instance_of M.tables)
-  pub lendable : Lendable ks T.schema M.tables
+  pub inputs : Inputs s t f i S T S F I
+  pub schema_is : M.schema ≡ T
+  pub is-even : Even (mapping_of S T F)
+  pub is_sigma : IsSigma (mapping_of S T F) (instance_of I) (instance_of M.tables)
+  pub lendable : Lendable T M.tables
 
-pub record PiAgrees (K : SchemaKind) (ks : Kinds) (s t f i : List ℕ) (M : Migrated) : Type 0 where
-  pub S : Category
-  pub T : Category
+pub record PiAgrees (s t f i : List ℕ) (M : Migrated) : Type 0 where
+  pub S : Schema
+  pub T : Schema
   pub F : Mapping
   pub I : Instance
-  pub inputs : Inputs K ks s t f i S T S F I
-  pub schema_is : M.schema ≡ T.schema
-  pub is-bijective : Bijective (mapping_of S.schema T.schema F)
-  pub is_pi : IsPi (mapping_of S.schema T.schema F) (instance_of I) (instance_of M.tables)
-  pub lendable : Lendable ks T.schema M.tables
+  pub inputs : Inputs s t f i S T S F I
+  pub schema_is : M.schema ≡ T
+  pub is-bijective : Bijective (mapping_of S T F)
+  pub is_pi : IsPi (mapping_of S T F) (instance_of I) (instance_of M.tables)
+  pub lendable : Lendable T M.tables
 
 -- ---- which refusal of all sheets together, or a result, a migration gives on accepted sheets; F and the instance are the theory's
 
@@ -111,25 +110,25 @@ pub record PiAgrees (K : SchemaKind) (ks : Kinds) (s t f i : List ℕ) (M : Migr
 abbrev pub DeltaOverfull : theory_mapping.Mapping → theory_instance.Instance ℕ → Type 0
 DeltaOverfull F J = max_rows < theory_instance.rows F.S (theory_mapping.delta F J)
 
-pub record DeltaAnswers (K : SchemaKind) (ks : Kinds) (s t f j : List ℕ) (F : theory_mapping.Mapping) (J : theory_instance.Instance ℕ) : Type 0 where
-  pub overfull : (delta_tables K ks s t f j ≡ refused 15 0) ↔ DeltaOverfull F J
-  pub result : ((M : Migrated) × (delta_tables K ks s t f j ≡ accepted M)) ↔ (DeltaOverfull F J → ⊥)
+pub record DeltaAnswers (s t f j : List ℕ) (F : theory_mapping.Mapping) (J : theory_instance.Instance ℕ) : Type 0 where
+  pub overfull : (delta_tables s t f j ≡ refused 15 0) ↔ DeltaOverfull F J
+  pub result : ((M : Migrated) × (delta_tables s t f j ≡ accepted M)) ↔ (DeltaOverfull F J → ⊥)
 
 -- 15 never arises for Sigma
-pub record SigmaAnswers (K : SchemaKind) (ks : Kinds) (s t f i : List ℕ) (F : theory_mapping.Mapping) : Type 0 where
-  pub uneven : (sigma_tables K ks s t f i ≡ refused 12 0) ↔ (Even F → ⊥)
-  pub result : ((M : Migrated) × (sigma_tables K ks s t f i ≡ accepted M)) ↔ Even F
+pub record SigmaAnswers (s t f i : List ℕ) (F : theory_mapping.Mapping) : Type 0 where
+  pub uneven : (sigma_tables s t f i ≡ refused 12 0) ↔ (Even F → ⊥)
+  pub result : ((M : Migrated) × (sigma_tables s t f i ≡ accepted M)) ↔ Even F
 
 -- some table has more than 64 components
 abbrev pub Wide : theory_mapping.Mapping → Type 0
-Wide F = (d : ℕ) × (d < F.T.nodes) × (cs : List (ℕ × List ℕ)) × IsComponents F d cs × (max_components < length cs)
+Wide F = (d : ℕ) × (d < F.T.nodes) × (ks : List (ℕ × List ℕ)) × IsComponents F d ks × (max_components < length ks)
 
 -- Pi has more than 512 rows
 abbrev pub PiOverfull : theory_mapping.Mapping → theory_instance.Instance ℕ → Type 0
 PiOverfull F I = (P : theory_instance.Instance ℕ) × IsPi F I P × (max_rows < theory_instance.rows F.T P)
 
-pub record PiAnswers (K : SchemaKind) (ks : Kinds) (s t f i : List ℕ) (F : theory_mapping.Mapping) (I : theory_instance.Instance ℕ) : Type 0 where
-  pub unpaired : (pi_tables K ks s t f i ≡ refused 13 0) ↔ (Bijective F → ⊥)
-  pub wide : (pi_tables K ks s t f i ≡ refused 14 0) ↔ (Bijective F × Wide F)
-  pub overfull : (pi_tables K ks s t f i ≡ refused 15 0) ↔ (Bijective F × (Wide F → ⊥) × PiOverfull F I)
-  pub result : ((M : Migrated) × (pi_tables K ks s t f i ≡ accepted M)) ↔ (Bijective F × (Wide F → ⊥) × (PiOverfull F I → ⊥))
+pub record PiAnswers (s t f i : List ℕ) (F : theory_mapping.Mapping) (I : theory_instance.Instance ℕ) : Type 0 where
+  pub unpaired : (pi_tables s t f i ≡ refused 13 0) ↔ (Bijective F → ⊥)
+  pub wide : (pi_tables s t f i ≡ refused 14 0) ↔ (Bijective F × Wide F)
+  pub overfull : (pi_tables s t f i ≡ refused 15 0) ↔ (Bijective F × (Wide F → ⊥) × PiOverfull F I)
+  pub result : ((M : Migrated) × (pi_tables s t f i ≡ accepted M)) ↔ (Bijective F × (Wide F → ⊥) × (PiOverfull F I → ⊥))

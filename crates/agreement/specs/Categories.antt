@@ -1,15 +1,12 @@
--- What the test of mappings, evenness, Sigma and Pi take of a category, and what the calls take of a kind of schema, and no more.
-use Rattle.std.specs.Prelude.{ℕ, ◌<◌, ◌≡◌, true, length}
+-- What the test of mappings, evenness, Sigma and Pi take of a category, and no more.
+use Rattle.std.specs.Prelude.{ℕ, ◌<◌, ◌≡◌, true}
 use mathlib.Core.List.{List, Memᴰ}
 use Rattle.theory.specs.Schema.{IsPath, PathBefore, IsFirst}
 use Rattle.theory.specs.Pi.{Sorted}
-use Rattle.meaning.specs.Schema.{Path, path, Schema}
+use Rattle.meaning.specs.Schema.{Path, path}
 use Rattle.meaning.specs.Category.{Category}
-use Rattle.meaning.specs.Sheet.{sound, on_sheet}
-use Rattle.meaning.specs.Formats.{Mapping}
 use Rattle.meaning.specs.Views.{schema_of}
 use Rattle.meaning.specs.Judge.{is_well_formed}
-use Rattle.meaning.specs.SchemaKinds.{SchemaKind}
 use Rattle.agreement.specs.Paths.{FirstEqual}
 
 pub record IsCategory (C : Category) : Type 0 where
@@ -20,14 +17,3 @@ pub record IsCategory (C : Category) : Type 0 where
   pub from_path : (n : ℕ) → n < C.schema.graph.nodes → (p : Path) → Memᴰ p (C.paths_from n) → (p.start ≡ n) × IsPath (schema_of C.schema) n p.edges
   pub in_order : (n : ℕ) → Sorted (λ p q. PathBefore p.edges q.edges) (C.paths_from n)
   pub listed : (n : ℕ) → n < C.schema.graph.nodes → (g : List ℕ) → IsFirst (schema_of C.schema) n g → Memᴰ (path n g) (C.paths_from n)
-
--- an image for each node, edge and attribute
-pub record HasImages (S : Schema) (F : Mapping) : Type 0 where
-  pub nodes : length F.nodes ≡ S.graph.nodes
-  pub edges : length F.edges ≡ length S.graph.edges
-  pub attributes : length F.attributes ≡ length S.attributes
-
--- accepted schema sheets give categories, and what reads as a mapping has all images
-pub record IsKind (K : SchemaKind) : Type 0 where
-  pub category : (s : List ℕ) {C : Category} → K.judge_category s ≡ sound C → IsCategory C
-  pub images : (C : Category) (f : List ℕ) {F : Mapping} → on_sheet (K.read_mapping C.schema) f ≡ sound F → HasImages C.schema F

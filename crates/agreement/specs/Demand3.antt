@@ -8,14 +8,13 @@ use Rattle.theory.specs.Instance as theory_instance
 use Rattle.theory.specs.Mapping as theory_mapping
 use Rattle.theory.specs.Sigma.{IsSigma, place}
 use Rattle.theory.specs.Matching.{IsMatching}
-use Rattle.meaning.specs.Category.{Category}
+use Rattle.meaning.specs.Schema.{Schema}
+use Rattle.meaning.specs.Category.{listed_category}
 use Rattle.meaning.specs.Sheet.{sound}
-use Rattle.meaning.specs.Formats.{Mapping, Instance, Kinds, max_rows, matching_sheet}
+use Rattle.meaning.specs.Formats.{Mapping, Instance, max_rows, matching_sheet}
 use Rattle.meaning.specs.Views.{schema_of, mapping_of, instance_of}
-use Rattle.meaning.specs.Judge.{judge_instance}
-use Rattle.meaning.specs.SchemaKinds.{SchemaKind, judge_mapping}
-use Rattle.meaning.specs.Calls.{Outcome, refused, accepted, Lent, in_tray}
-use Rattle.meaning.specs.OwnKinds.{Form, check_pushed_in, check_raw_in, pushed_to_raw_in, raw_to_pushed_in}
+use Rattle.meaning.specs.Judge.{judge_schema, judge_mapping, judge_instance}
+use Rattle.meaning.specs.Calls.{Outcome, refused, accepted, check_pushed, check_raw, pushed_to_raw, raw_to_pushed, Lent, in_tray}
 
 -- ---- what a call answers
 
@@ -49,35 +48,35 @@ pub record Answers : Type 0 where
   pub to-raw : Turning
   pub to-pushed : Turning
 
--- those of their meanings, in either form
-abbrev pub meaning_answers : SchemaKind → Form → List ℕ → List ℕ → List ℕ → List ℕ → List ℕ → Answers
-meaning_answers K form s t f i j = record {
-  check-pushed = λ k. check_pushed_in K form s t f i j k;
-  check-raw = λ k. check_raw_in K form s t f i j k;
-  to-raw = λ tray k. in_tray tray (pushed_to_raw_in K form s t f i j k);
-  to-pushed = λ tray k. in_tray tray (raw_to_pushed_in K form s t f i j k);
+-- those of their meanings
+abbrev pub meaning_answers : List ℕ → List ℕ → List ℕ → List ℕ → List ℕ → Answers
+meaning_answers s t f i j = record {
+  check-pushed = check_pushed s t f i j;
+  check-raw = check_raw s t f i j;
+  to-raw = λ tray k. in_tray tray (pushed_to_raw s t f i j k);
+  to-pushed = λ tray k. in_tray tray (raw_to_pushed s t f i j k);
 }
 
 -- ---- the provisos
 
--- of a kind of schema and a list of kinds: sheets s, t, f, i and j of accepted schemas, an accepted mapping between them that is a discrete op-fibration with matching columns,
+-- sheets s, t, f, i and j of accepted schemas, an accepted mapping between them that is a discrete op-fibration with matching columns,
 -- an accepted run and an accepted book, and both migrated tables accepted: `pushed` is Sigma of the run
-pub record Provided (K : SchemaKind) (ks : Kinds) (s t f i j : List ℕ) : Type 0 where
-  pub S : Category
-  pub T : Category
+pub record Provided (s t f i j : List ℕ) : Type 0 where
+  pub S : Schema
+  pub T : Schema
   pub F : Mapping
   pub run : Instance
   pub book : Instance
   pub pushed : theory_instance.Instance ℕ
-  pub s_accepted : K.judge_category s ≡ sound S
-  pub t_accepted : K.judge_category t ≡ sound T
-  pub f_accepted : judge_mapping K S T f ≡ sound F
-  pub f_even : theory_mapping.Even (mapping_of S.schema T.schema F)
-  pub run_accepted : judge_instance ks S.schema i ≡ sound run
-  pub book_accepted : judge_instance ks T.schema j ≡ sound book
-  pub pushed_is : IsSigma (mapping_of S.schema T.schema F) (instance_of run) pushed
-  pub pushed_accepted : theory_instance.rows (schema_of T.schema) pushed ≤ max_rows
-  pub pulled_accepted : theory_instance.rows (schema_of S.schema) (theory_mapping.delta (mapping_of S.schema T.schema F) (instance_of book)) ≤ max_rows
+  pub s_accepted : judge_schema s ≡ sound S
+  pub t_accepted : judge_schema t ≡ sound T
+  pub f_accepted : judge_mapping (listed_category S) (listed_category T) f ≡ sound F
+  pub f_even : theory_mapping.Even (mapping_of S T F)
+  pub run_accepted : judge_instance S i ≡ sound run
+  pub book_accepted : judge_instance T j ≡ sound book
+  pub pushed_is : IsSigma (mapping_of S T F) (instance_of run) pushed
+  pub pushed_accepted : theory_instance.rows (schema_of T) pushed ≤ max_rows
+  pub pulled_accepted : theory_instance.rows (schema_of S) (theory_mapping.delta (mapping_of S T F) (instance_of book)) ≤ max_rows
 
 -- ---- the two sides
 
@@ -136,13 +135,13 @@ MeetsSame S run here there turn =
     (k r tray : List ℕ) → MatchingOf here k → Holds there tray → Writes tray r (turn tray k)
     → (c : ℕ) → c < S.nodes → (y : ℕ) → y < run.count c → meets there r c y ≡ meets here k c y
 
-module _ {K : SchemaKind} {ks : Kinds} {s t f i j : List ℕ} (x : Provided K ks s t f i j) where
+module _ {s t f i j : List ℕ} (x : Provided s t f i j) where
   -- from Sigma's result to the book; a raw row's number stands at its place in the joined list
   abbrev pub pushed_side : Side
   pushed_side =
-      let F = mapping_of x.S.schema x.T.schema x.F in
+      let F = mapping_of x.S x.T x.F in
       record {
-        schema = schema_of x.T.schema;
+        schema = schema_of x.T;
         A = x.pushed;
         B = instance_of x.book;
         position = λ c y. sum x.pushed.count (F.node c) + place F (instance_of x.run) c y;
@@ -151,9 +150,9 @@ module _ {K : SchemaKind} {ks : Kinds} {s t f i j : List ℕ} (x : Provided K ks
   -- from the run to Delta's result
   abbrev pub raw_side : Side
   raw_side = record {
-    schema = schema_of x.S.schema;
+    schema = schema_of x.S;
     A = instance_of x.run;
-    B = theory_mapping.delta (mapping_of x.S.schema x.T.schema x.F) (instance_of x.book);
+    B = theory_mapping.delta (mapping_of x.S x.T x.F) (instance_of x.book);
     position = λ c y. sum (instance_of x.run).count c + y;
   }
 
@@ -175,8 +174,8 @@ module _ {K : SchemaKind} {ks : Kinds} {s t f i j : List ℕ} (x : Provided K ks
     pub pushed_back : TurnsBack pushed_side raw_side a.to-raw a.to-pushed
     pub raw_back : TurnsBack raw_side pushed_side a.to-pushed a.to-raw
     -- and each raw row meets the same book row on both sides
-    pub pushed_meets : MeetsSame (schema_of x.S.schema) (instance_of x.run) pushed_side raw_side a.to-raw
-    pub raw_meets : MeetsSame (schema_of x.S.schema) (instance_of x.run) raw_side pushed_side a.to-pushed
+    pub pushed_meets : MeetsSame (schema_of x.S) (instance_of x.run) pushed_side raw_side a.to-raw
+    pub raw_meets : MeetsSame (schema_of x.S) (instance_of x.run) raw_side pushed_side a.to-pushed
 
 -- ---- where a proviso fails, each of the four calls refuses, whatever list and tray are lent, and no turning changes its tray
 

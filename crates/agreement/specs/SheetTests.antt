@@ -1,19 +1,17 @@
 -- The tests of each kind of sheet, in order: 1 inside the leading counts, 3, 1 in the rest, 2, then upward from 4 (document 01, 'Why a sheet is sent back'); of an added row 1, 2, 9, 10, 11
--- (document 02, C-16), of a kinds sheet 1, 2, 20 (C-18).
+-- (document 02, C-16).
 use Rattle.std.specs.Prelude.{ℕ, not, List, [], ◌∷◌, map, length, leb}
 use Rattle.std.proofs.Math.Option.{Option, none, some}
 use Rattle.bits.specs.Field as bits
 use Rattle.meaning.specs.Lists.{sum_of}
 use Rattle.meaning.specs.Schema.{Path, Graph, Schema, is_path, has_loop}
 use Rattle.meaning.specs.Sheet.{Read, fails, reads, Reader, ◌>>=◌, give, times, field}
-use Rattle.meaning.specs.Formats.{Mapping, Instance, max_rows, kind_count, counts_in_limits, read_edges, read_path, read_counts, read_lists, read_links, read_values, read_range, Kinds, kinds}
-use Rattle.meaning.specs.Category.{Category, listed_category}
-use Rattle.meaning.specs.Judge.{is_well_formed, has_few_paths, images_fit, keeps_equations, links_in_range, values_in_range, obeys_equations, kinds_fit}
-use Rattle.meaning.specs.SchemaKinds.{SchemaKind, judge_mapping}
+use Rattle.meaning.specs.Formats.{Mapping, Instance, max_rows, counts_in_limits, read_edges, read_path, read_counts, read_lists, read_links, read_values, kinds}
+use Rattle.meaning.specs.Category.{Category}
+use Rattle.meaning.specs.Judge.{is_well_formed, has_few_paths, images_fit, keeps_equations, links_in_range, values_in_range, obeys_equations}
 use Rattle.meaning.specs.Matching.{is_matching}
-use Rattle.meaning.specs.Calls.{at}
 use Rattle.meaning.specs.Rows.{one_row, row_links_in_range, row_obeys_equations}
-use Rattle.agreement.specs.Tests.{Refusal, Tests, done, test, giving, holds, Decides}
+use Rattle.agreement.specs.Tests.{Refusal, Tests, done, test, holds}
 
 -- what was read, and the position behind it
 abbrev pub what_read : {A : Type 0} → Read A → Option (A × ℕ)
@@ -65,27 +63,13 @@ read_images S = do
   as' ← times (length S.attributes) (field 4)
   give (record { nodes = ns; edges = es; attributes = as' })
 
--- what the tests of the calls take of a kind of schema: the tests of its schema sheets, in order, and the images of a mapping sheet
-pub record KindTests : Type 1 where
-  pub numbers : List ℕ
-  pub schemas : (place : ℕ) → List ℕ → Tests Category (placed place numbers)
-  pub images : Schema → Reader Mapping
-
-abbrev pub listed_tests : KindTests
-listed_tests = record { numbers = schema_numbers; schemas = λ place s. giving (schema_tests place s) listed_category; images = read_images }
-
-abbrev pub mapping_tests : KindTests → (place : ℕ) → Category → Category → List ℕ → Tests Mapping (placed place mapping_numbers)
-mapping_tests X place S T s =
-    test (1, place) (what_read (X.images S.schema s 0)) (λ F.
+abbrev pub mapping_tests : (place : ℕ) → Category → Category → List ℕ → Tests Mapping (placed place mapping_numbers)
+mapping_tests place S T s =
+    test (1, place) (what_read (read_images S.schema s 0)) (λ F.
     test (2, place) (holds (bits.tail_ok s F.1)) (λ _.
     test (7, place) (holds (images_fit S.schema T.schema F.0)) (λ _.
     test (8, place) (holds (keeps_equations S T F.0)) (λ _.
     done F.0))))
-
--- they decide the schema sheets and the mapping sheets of the kind K
-pub record AreTests (K : SchemaKind) (X : KindTests) : Type 0 where
-  pub schemas : (place : ℕ) (s : List ℕ) → Decides (X.schemas place s) (at place (K.judge_category s))
-  pub mappings : (place : ℕ) (S T : Category) (f : List ℕ) → Decides (mapping_tests X place S T f) (at place (judge_mapping K S T f))
 
 -- ---- instance
 
@@ -99,14 +83,14 @@ read_links_values S counts = do
   vs ← read_values S counts
   give (record { counts = counts; links = ls; values = vs })
 
-abbrev pub instance_tests : Kinds → (place : ℕ) → Schema → List ℕ → Tests Instance (placed place instance_numbers)
-instance_tests ks place S s =
+abbrev pub instance_tests : (place : ℕ) → Schema → List ℕ → Tests Instance (placed place instance_numbers)
+instance_tests place S s =
     test (1, place) (what_read (times S.graph.nodes (field 10) s 0)) (λ c.
     test (3, place) (holds (leb (sum_of c.0) max_rows)) (λ _.
     test (1, place) (what_read (read_links_values S c.0 s c.1)) (λ I.
     test (2, place) (holds (bits.tail_ok s I.1)) (λ _.
     test (9, place) (holds (links_in_range S I.0)) (λ _.
-    test (10, place) (holds (values_in_range ks S I.0)) (λ _.
+    test (10, place) (holds (values_in_range kinds S I.0)) (λ _.
     test (11, place) (holds (obeys_equations S I.0)) (λ _.
     done I.0)))))))
 
@@ -135,15 +119,3 @@ row_sheet_tests place S I c s =
     test (10, place) (holds (values_in_range kinds S R.0)) (λ _.
     test (11, place) (holds (row_obeys_equations S I c R.0)) (λ _.
     done R.0)))))
-
--- ---- kinds (document 02, C-18)
-
-abbrev pub kinds_numbers : List ℕ
-kinds_numbers = 1 ∷ 2 ∷ 20 ∷ []
-
-abbrev pub kinds_tests : (place : ℕ) → List ℕ → Tests Kinds (placed place kinds_numbers)
-kinds_tests place k =
-    test (1, place) (what_read (times kind_count read_range k 0)) (λ ks.
-    test (2, place) (holds (bits.tail_ok k ks.1)) (λ _.
-    test (20, place) (holds (kinds_fit ks.0)) (λ _.
-    done ks.0)))

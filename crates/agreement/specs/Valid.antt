@@ -1,5 +1,5 @@
 -- What accepted mappings and instances are, in the tables and as the theory has them, and the part of it that each of the tests 7 to 11 decides.
-use Rattle.std.specs.Prelude.{ℕ, ◌<◌, ◌≤◌, ◌≡◌, List, ◌⊎◌, length}
+use Rattle.std.specs.Prelude.{ℕ, ◌<◌, ◌≤◌, ◌≡◌, List, ◌⊎◌, length, get_or}
 use Rattle.theory.specs.Schema as theory_schema
 use Rattle.theory.specs.Schema.{IsPath, Chain, endpoint}
 use Rattle.theory.specs.Instance as theory_instance
@@ -10,13 +10,13 @@ use Rattle.meaning.specs.Lists.{sum_of}
 use Rattle.meaning.specs.Schema.{Schema}
 use Rattle.meaning.specs.Category.{Category}
 use Rattle.meaning.specs.Sheet.{sound, on_sheet}
-use Rattle.meaning.specs.Formats.{Mapping, Instance, read_instance, max_rows, range_of, Kinds}
+use Rattle.meaning.specs.Formats.{Mapping, Instance, read_instance, max_rows, from_to, Kinds, kinds}
 use Rattle.meaning.specs.Views.{Shaped, schema_of, mapping_of, instance_of}
 use Rattle.agreement.specs.Categories.{IsCategory}
 
 -- v is a value of kind k, by the list ks of kinds: not below its smallest, and not above its largest
 abbrev pub InRange : Kinds → ℕ → ℕ → Type 0
-InRange ks k v = ((range_of ks k).smallest ≤ v) × (v ≤ (range_of ks k).largest)
+InRange ks k v = ((get_or ks k (from_to 0 0)).smallest ≤ v) × (v ≤ (get_or ks k (from_to 0 0)).largest)
 
 pub record ValidMapping (S T : Category) (F : Mapping) : Type 0 where
   pub s_is : IsCategory S
@@ -24,9 +24,9 @@ pub record ValidMapping (S T : Category) (F : Mapping) : Type 0 where
   pub attributes : length F.attributes ≡ length S.schema.attributes
   pub is : IsMapping (mapping_of S.schema T.schema F)
 
-pub record ValidInstance (ks : Kinds) (S : Schema) (I : Instance) : Type 0 where
+pub record ValidInstance (S : Schema) (I : Instance) : Type 0 where
   pub shaped : Shaped S I
-  pub is : IsInstance (InRange ks) (schema_of S) (instance_of I)
+  pub is : IsInstance (InRange kinds) (schema_of S) (instance_of I)
   pub few_rows : sum_of I.counts ≤ max_rows
 
 -- ---- of a mapping: fields of `IsMapping`
@@ -60,13 +60,13 @@ pub record BeyondRange (ks : Kinds) (S : theory_schema.Schema) (I : theory_insta
   pub attribute-in : attribute < S.attributes
   pub row : ℕ
   pub row_in : row < I.count (S.home attribute)
-  pub beyond : (I.value attribute row < (range_of ks (S.kind attribute)).smallest) ⊎ ((range_of ks (S.kind attribute)).largest < I.value attribute row)
+  pub beyond : (I.value attribute row < (get_or ks (S.kind attribute) (from_to 0 0)).smallest) ⊎ ((get_or ks (S.kind attribute) (from_to 0 0)).largest < I.value attribute row)
 
 -- the sheet i reads as an instance I of S whose links are in range, with such a value
-pub record OffScale (ks : Kinds) (S : Schema) (i : List ℕ) (I : Instance) : Type 0 where
+pub record OffScale (S : Schema) (i : List ℕ) (I : Instance) : Type 0 where
   pub reads : on_sheet (read_instance S) i ≡ sound I
   pub links : LinksIn (schema_of S) (instance_of I)
-  pub value : BeyondRange ks (schema_of S) (instance_of I)
+  pub value : BeyondRange kinds (schema_of S) (instance_of I)
 
 -- 11: the two sides of each equation lead each row to the same row
 abbrev pub ObeysEquations : theory_schema.Schema → theory_instance.Instance ℕ → Type 0

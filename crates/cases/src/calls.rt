@@ -7,11 +7,6 @@ use migration::exports::{
     migration_pi, migration_pushed_to_raw, migration_raw_to_pushed, migration_sigma,
 };
 use query::exports::migration_query;
-use ranged::exports::{
-    migration_check_pushed_with_kinds, migration_check_raw_with_kinds, migration_delta_with_kinds,
-    migration_pi_with_kinds, migration_pushed_to_raw_with_kinds,
-    migration_raw_to_pushed_with_kinds, migration_sigma_with_kinds,
-};
 
 // The calls that write into the tray.
 fn written<'a>(
@@ -53,39 +48,6 @@ fn written<'a>(
     migration_raw_to_pushed(s, t, f, i, j, k, &mut *tray)
 }
 
-// The second forms, which are lent a kinds sheet before the sheets of the first.
-fn with_kinds<'a>(
-    call: u8,
-    kinds: &'a [u8],
-    s: &'a [u8],
-    t: &'a [u8],
-    f: &'a [u8],
-    i: &'a [u8],
-    j: &'a [u8],
-    k: &'a [u8],
-    tray: &mut [u8],
-) -> u64 {
-    if call == 16 {
-        return migration_delta_with_kinds(kinds, s, t, f, i, &mut *tray);
-    }
-    if call == 17 {
-        return migration_sigma_with_kinds(kinds, s, t, f, i, &mut *tray);
-    }
-    if call == 18 {
-        return migration_pi_with_kinds(kinds, s, t, f, i, &mut *tray);
-    }
-    if call == 19 {
-        return migration_check_pushed_with_kinds(kinds, s, t, f, i, j, k);
-    }
-    if call == 20 {
-        return migration_check_raw_with_kinds(kinds, s, t, f, i, j, k);
-    }
-    if call == 21 {
-        return migration_pushed_to_raw_with_kinds(kinds, s, t, f, i, j, k, &mut *tray);
-    }
-    migration_raw_to_pushed_with_kinds(kinds, s, t, f, i, j, k, &mut *tray)
-}
-
 pub(crate) fn answer<'a>(
     call: u8,
     s: &'a [u8],
@@ -112,9 +74,6 @@ pub(crate) fn answer<'a>(
     }
     if call == 8 {
         return migration_check_raw(s, t, f, i, j, k);
-    }
-    if 15 < call {
-        return with_kinds(call, s, t, f, i, j, k, l, &mut *tray);
     }
     written(call, s, t, f, i, j, k, l, m, &mut *tray)
 }

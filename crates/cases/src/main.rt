@@ -17,7 +17,7 @@ const UNWRITTEN: u8 = 165;
 const TRAY: usize = 65536;
 
 // At most so many bytes are read.
-const INPUT: usize = 1310720;
+const INPUT: usize = 655360;
 
 // A checksum with one byte more.
 fn mixed(sum: u64, byte: u8) -> u64 {

@@ -42,7 +42,7 @@ stopped : (t : Schema) {r : Instance} (links values : List ℕ) {n : ℕ} {X : O
 stopped t links values {n} e some h = rw e (record { says = rw (ne_eqb n 0 some) h; run = λ z. absurd (some z) })
 
 -- valid tables pass the tests
-valid-accepted : {t : Schema} (i : Instance) (links values : List ℕ) → ValidInstance kinds (schema_of t) (tables_of t i links values) → Accepted kinds t i links values
+valid-accepted : {t : Schema} (i : Instance) (links values : List ℕ) → ValidInstance (schema_of t) (tables_of t i links values) → Accepted t i links values
 valid-accepted {t} i links values v =
     let h = (instance-iff kinds (schema_of t) (tables_of t i links values) v.shaped).1 v.is in
     record { links_in = h.0; values_in = h.1; obeys = h.2 }
@@ -51,7 +51,7 @@ module _ (t : Schema) (run : Instance) (run-links run-values : List ℕ) (U : Ac
   abbrev I : formats.Instance
   I = tables_of t run run-links run-values
 
-  valid : ValidInstance kinds (schema_of t) I
+  valid : ValidInstance (schema_of t) I
   valid = accepted-valid U.sound run run-links run-values U.limits U.accepted
 
   module _ (c : ℕ) (row : List ℕ) where
@@ -83,10 +83,10 @@ module _ (t : Schema) (run : Instance) (run-links run-values : List ℕ) (U : Ac
         pub add-made : {r : Instance} {l v : List ℕ} → sum_of (front_of t.graph.nodes run.counts) < 512 → Becomes t r l v (meaning.added (schema_of t) I R) → ChangesTo t r l v (addition (schema_of t) I c row)
         add-made {r} {l} {v} room u = record {
           says = rw (eq-eqb r.fault 0 u.unrefused, u.says, lt-ltb c t.graph.nodes h, judged, le-leb (sum_of (meaning.added (schema_of t) I R).counts) 512 (omega (arith, rows))) refl;
-          run = λ _. record { sound = U.sound; limits = u.limits; accepted = valid-accepted r l v (subst (ValidInstance kinds (schema_of t)) (sym u.says) changed) };
+          run = λ _. record { sound = U.sound; limits = u.limits; accepted = valid-accepted r l v (subst (ValidInstance (schema_of t)) (sym u.says) changed) };
         }
           where
-            changed : ValidInstance kinds (schema_of t) (meaning.added (schema_of t) I R)
+            changed : ValidInstance (schema_of t) (meaning.added (schema_of t) I R)
             changed =
                 let a = bind-sound (on_sheet (read_row (schema_of t) c) row) _ judged in
                 let b = ensure-sound (row_links_in_range (schema_of t) I a.0) 9 _ a.2 in
@@ -94,7 +94,7 @@ module _ (t : Schema) (run : Instance) (run-links run-values : List ℕ) (U : Ac
                 let g = ensure-sound (row_obeys_equations (schema_of t) I c a.0) 11 _ d.1 in
                 let same = sound-same g.1 in
                 let fits : sum_of (meaning.added (schema_of t) I a.0).counts ≤ 512 = subst (λ (r : formats.Instance). sum_of (meaning.added (schema_of t) I r).counts ≤ 512) (sym same) (omega (arith, rows)) in
-                subst (λ (r : formats.Instance). ValidInstance kinds (schema_of t) (meaning.added (schema_of t) I r)) same
+                subst (λ (r : formats.Instance). ValidInstance (schema_of t) (meaning.added (schema_of t) I r)) same
                 (added-valid (formed U.sound) valid h (row_read (schema_of t) c h row a.1) b.0 d.0 g.0 fits)
 
   -- ---- a row withdrawn
@@ -123,5 +123,5 @@ module _ (t : Schema) (run : Instance) (run-links run-values : List ℕ) (U : Ac
       pub withdraw-made : {r : Instance} {l v : List ℕ} → is_held (schema_of t) I c x ≡ false → Becomes t r l v (meaning.withdrawn (schema_of t) I c x) → ChangesTo t r l v (withdrawal (schema_of t) I c x)
       withdraw-made {r} {l} {v} h u = record {
         says = rw (eq-eqb r.fault 0 u.unrefused, u.says, lt-ltb c t.graph.nodes c-in, lt-ltb x (count I c) there, h) refl;
-        run = λ _. record { sound = U.sound; limits = u.limits; accepted = valid-accepted r l v (subst (ValidInstance kinds (schema_of t)) (sym u.says) (withdrawn-valid (formed U.sound) valid c-in there h)) };
+        run = λ _. record { sound = U.sound; limits = u.limits; accepted = valid-accepted r l v (subst (ValidInstance (schema_of t)) (sym u.says) (withdrawn-valid (formed U.sound) valid c-in there h)) };
       }

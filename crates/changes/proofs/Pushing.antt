@@ -4,7 +4,7 @@ use mathlib.Core.Path.{◌≡◌, refl, sym, ap, subst, ◌∙◌}
 use mathlib.Core.List.{List}
 use Rattle.meaning.specs.Lists.{sum_of}
 use Rattle.meaning.specs.Formats as formats
-use Rattle.meaning.specs.Formats.{kinds, instance_sheet}
+use Rattle.meaning.specs.Formats.{instance_sheet}
 use Rattle.meaning.specs.Sigma.{sigma}
 use Rattle.meaning.specs.Calls.{Outcome, accepted, ◌>>=◌, Migration}
 use Rattle.meaning.specs.Changes as changes
@@ -54,12 +54,12 @@ module _ (o : Opened) (run : Instance) (run-links run-values : List ℕ) (U : Ch
   }
 
 -- ---- the change as a whole
-module _ (k : Kind) (o : Opened) (M : Outcome Migration) (i : List ℕ) (c : ℕ) (row : List ℕ) (r : Run) (run-links run-values : List ℕ) (O : RunOpens kinds o r run-links run-values (even_run kinds M i)) where
+module _ (k : Kind) (o : Opened) (M : Outcome Migration) (i : List ℕ) (c : ℕ) (row : List ℕ) (r : Run) (run-links run-values : List ℕ) (O : RunOpens o r run-links run-values (even_run M i)) where
   abbrev x : changes.Run
   x = run_of o r.tables run-links run-values
 
   abbrev rest : changes.Run → Outcome Sheets
-  rest x = changed_by k x.m.S.schema x.tables c row >>= λ J. accepted (sheets_of x J)
+  rest x = changed_by k x.m.S x.tables c row >>= λ J. accepted (sheets_of x J)
 
   -- the change was accepted
   pub changed-run : r.refusal.number ≡ 0 → {after : Instance} {al av : List ℕ} → ChangesTo o.source after al av (changed_by k (schema_of o.source) (tables_of o.source r.tables run-links run-values) c row)

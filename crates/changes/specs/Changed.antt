@@ -2,8 +2,7 @@
 use Rattle.std.specs.Prelude.{ℕ, ◌≡◌, true, List, take}
 use Rattle.meaning.specs.Schema as meaning
 use Rattle.meaning.specs.Formats as formats
-use Rattle.meaning.specs.Formats.{kinds, instance_sheet}
-use Rattle.meaning.specs.SchemaKinds.{listed}
+use Rattle.meaning.specs.Formats.{instance_sheet}
 use Rattle.meaning.specs.Evenness.{even}
 use Rattle.meaning.specs.Sigma.{sigma}
 use Rattle.meaning.specs.Calls.{Outcome, accepted, ◌>>=◌, Migration, migration}
@@ -31,12 +30,12 @@ changed_by (kind.Withdraw x) S I c row = withdrawal S I c x
 
 abbrev pub changed_sheets : Kind → Outcome Migration → List ℕ → ℕ → List ℕ → Outcome Sheets
 changed_sheets k M i c row = do
-  x ← even_run kinds M i
-  J ← changed_by k x.m.S.schema x.tables c row
+  x ← even_run M i
+  J ← changed_by k x.m.S x.tables c row
   accepted (sheets_of x J)
 
 abbrev pub changed_trays : Kind → (s t f run : List ℕ) (n c : ℕ) (row pushed : List ℕ) → Trays
-changed_trays k s t f run n c row pushed = in_trays run pushed (changed_sheets k (migration listed s t f) (take n run) c row)
+changed_trays k s t f run n c row pushed = in_trays run pushed (changed_sheets k (migration s t f) (take n run) c row)
 
 -- ---- in working arrays
 
@@ -44,7 +43,7 @@ changed_trays k s t f run n c row pushed = in_trays run pushed (changed_sheets k
 pub record AcceptedRun (t : Schema) (i : Instance) (links values : List ℕ) : Type 0 where
   pub sound : Sound t
   pub limits : Limits t i
-  pub accepted : Accepted kinds t i links values
+  pub accepted : Accepted t i links values
 
 -- the tables after a change, or the number with which it is refused at place 0
 pub record ChangesTo (t : Schema) (i : Instance) (links values : List ℕ) (X : Outcome formats.Instance) : Type 0 where

@@ -8,7 +8,6 @@ ghost use Rattle.changes.specs.Changed.{changed_by, changed_sheets, AcceptedRun,
 use crate::results::{Change, push_changed, refused};
 use instance::Instance;
 use instance::decode::{total, wide};
-use instance::kinds::kinds;
 use rows::adding::put_row;
 use rows::judge::judge_row;
 use rows::withdrawing::{is_held, take_row};
@@ -138,8 +137,7 @@ pub(crate) fn change_tables(
     requires { IsOpened opened × Rooms opened run_links.old run_values.old links.old values.old }
     ensures { Changes opened result run_links.new run_values.new links.new values.new (changed_sheets kind (opened_of opened) i.now table row.now) }
 {
-    let list = kinds();
-    let run = open_run(opened, i, &list, &mut *run_links, &mut *run_values);
+    let run = open_run(opened, i, &mut *run_links, &mut *run_values);
     let first = run.refusal;
     let tables = run.tables;
     if first.number == 0 {

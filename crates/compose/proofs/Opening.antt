@@ -4,15 +4,15 @@ use mathlib.Core.Path.{◌≡◌, sym, ap, subst, ◌∙◌}
 use mathlib.Core.List.{List}
 use native.Mathlib.Omega.{arith}
 use lib.ListN.{length}
-use Rattle.meaning.specs.Category as categories
+use Rattle.meaning.specs.Schema as schemas
+use Rattle.meaning.specs.Category.{listed_category}
 use Rattle.meaning.specs.Formats as formats
 use Rattle.meaning.specs.Formats.{mapping_sheet}
-use Rattle.meaning.specs.Judge.{judge_schema}
-use Rattle.meaning.specs.SchemaKinds.{judge_mapping, listed}
+use Rattle.meaning.specs.Judge.{judge_schema, judge_mapping}
 use Rattle.meaning.specs.Calls.{Outcome, refused, accepted, ◌>>=◌, at, Lent, written, in_tray}
 use Rattle.meaning.specs.Composition as meaning
 use Rattle.schema.specs.declared.Schema.{Schema}
-use Rattle.schema.specs.Decoded.{category_of}
+use Rattle.schema.specs.Decoded.{schema_of, category_of}
 use Rattle.schema.specs.Judged as judged
 use Rattle.mapping.specs.declared.Mapping.{Mapping}
 use Rattle.mapping.specs.Decoded.{mapping_of}
@@ -23,7 +23,6 @@ use Rattle.steps.specs.declared.open.Category.{Category}
 use Rattle.steps.specs.Answers.{or_next, outcome_of}
 use Rattle.steps.specs.Opened.{SchemaSays}
 use Rattle.steps.proofs.Refusing.{refusal, no_refusal, some-refusal, judged-at, then, yields, or_assoc, none_first, none-next}
-use Rattle.steps.proofs.Opening.{category-judged}
 use Rattle.steps.proofs.Trays.{lent, tray-written, tray-small}
 use Rattle.compose.specs.declared.call.Composable.{Composable}
 use Rattle.compose.specs.Opened.{composable_of, composed_of, Opens}
@@ -33,24 +32,24 @@ use Rattle.compose.proofs.SheetFields.{sheet-length}
 -- ---- the judges in turn, each with what follows it
 
 module _ (t u f g : List ℕ) where
-  abbrev after4 : categories.Category → categories.Category → categories.Category → formats.Mapping → Outcome meaning.Composable
-  after4 S T U F = at 5 (judge_mapping listed T U g) >>= λ G. accepted (record { S = S; T = T; U = U; F = F; G = G })
+  abbrev after4 : schemas.Schema → schemas.Schema → schemas.Schema → formats.Mapping → Outcome meaning.Composable
+  after4 S T U F = at 5 (judge_mapping (listed_category T) (listed_category U) g) >>= λ G. accepted (record { S = S; T = T; U = U; F = F; G = G })
 
-  abbrev after3 : categories.Category → categories.Category → categories.Category → Outcome meaning.Composable
-  after3 S T U = at 4 (judge_mapping listed S T f) >>= after4 S T U
+  abbrev after3 : schemas.Schema → schemas.Schema → schemas.Schema → Outcome meaning.Composable
+  after3 S T U = at 4 (judge_mapping (listed_category S) (listed_category T) f) >>= after4 S T U
 
-  abbrev after2 : categories.Category → categories.Category → Outcome meaning.Composable
-  after2 S T = at 3 (listed.judge_category u) >>= after3 S T
+  abbrev after2 : schemas.Schema → schemas.Schema → Outcome meaning.Composable
+  after2 S T = at 3 (judge_schema u) >>= after3 S T
 
-  abbrev after1 : categories.Category → Outcome meaning.Composable
-  after1 S = at 2 (listed.judge_category t) >>= after2 S
+  abbrev after1 : schemas.Schema → Outcome meaning.Composable
+  after1 S = at 2 (judge_schema t) >>= after2 S
 
 module _ (a : Schema) (b c : Category) (f g : Mapping) where
   abbrev opened : Refusal → Composable
   opened r = record { refusal = r; first = a; second = b.schema; third = c.schema; f = f; g = g }
 
   module _ (s t u sf sg : List ℕ) (A : judged.Says a (judge_schema s)) (B : SchemaSays b (judge_schema t)) (C : SchemaSays c (judge_schema u))
-      (F : Says a b.schema f (judge_mapping listed (category_of a) (category_of b.schema) sf)) (G : Says b.schema c.schema g (judge_mapping listed (category_of b.schema) (category_of c.schema) sg)) where
+      (F : Says a b.schema f (judge_mapping (category_of a) (category_of b.schema) sf)) (G : Says b.schema c.schema g (judge_mapping (category_of b.schema) (category_of c.schema) sg)) where
     abbrev r1 : Refusal
     r1 = refusal a.fault 1
 
@@ -78,9 +77,9 @@ module _ (a : Schema) (b c : Category) (f g : Mapping) where
     told : outcome_of (or_next first4 r5) result ≡ meaning.judge_composable s t u sf sg
     told =
         rw (or_assoc first3 r4 r5, or_assoc (or_next r1 r2) r3 (or_next r4 r5), or_assoc r1 r2 (or_next r3 (or_next r4 r5))) (
-        then r1 (category_of a) (judged-at a.fault 1 (category_of a) (category-judged a s A.says)) (or_next r2 (or_next r3 (or_next r4 r5))) result (after1 t u sf sg) (
-        then r2 (category_of b.schema) (judged-at b.schema.fault 2 (category_of b.schema) (category-judged b.schema t B.says)) (or_next r3 (or_next r4 r5)) result (after2 t u sf sg result.S) (
-        then r3 (category_of c.schema) (judged-at c.schema.fault 3 (category_of c.schema) (category-judged c.schema u C.says)) (or_next r4 r5) result (after3 t u sf sg result.S result.T) (
+        then r1 (schema_of a) (judged-at a.fault 1 (schema_of a) A.says) (or_next r2 (or_next r3 (or_next r4 r5))) result (after1 t u sf sg) (
+        then r2 (schema_of b.schema) (judged-at b.schema.fault 2 (schema_of b.schema) B.says) (or_next r3 (or_next r4 r5)) result (after2 t u sf sg result.S) (
+        then r3 (schema_of c.schema) (judged-at c.schema.fault 3 (schema_of c.schema) C.says) (or_next r4 r5) result (after3 t u sf sg result.S result.T) (
         then r4 (mapping_of a f) (judged-at f.fault 4 (mapping_of a f) F.says) r5 result (after4 t u sf sg result.S result.T result.U) (
         yields r5 (mapping_of b.schema g) (judged-at g.fault 5 (mapping_of b.schema g) G.says) (λ G. record { S = result.S; T = result.T; U = result.U; F = result.F; G = G }))))))
 

@@ -2,14 +2,14 @@
 use Rattle.std.specs.Prelude.{◌≡◌, List, ℕ}
 use Rattle.meaning.specs.Calls.{Outcome, accepted, ◌>>=◌}
 use Rattle.meaning.specs.Composition as meaning
-use Rattle.schema.specs.Decoded.{category_of}
+use Rattle.schema.specs.Decoded.{schema_of}
 use Rattle.mapping.specs.Decoded.{mapping_of}
 use Rattle.steps.specs.Answers.{outcome_of}
 use Rattle.compose.specs.declared.call.Composable.{Composable}
 use Rattle.compose.specs.Composed as composed
 
 abbrev pub composable_of : Composable → meaning.Composable
-composable_of x = record { S = category_of x.first; T = category_of x.second; U = category_of x.third; F = mapping_of x.first x.f; G = mapping_of x.second x.g }
+composable_of x = record { S = schema_of x.first; T = schema_of x.second; U = schema_of x.third; F = mapping_of x.first x.f; G = mapping_of x.second x.g }
 
 -- what the five sheets say together
 abbrev pub opened_of : Composable → Outcome meaning.Composable

@@ -6,7 +6,6 @@ pub mod Following
 pub mod Walking
 pub mod TableList
 pub mod Judging
-pub mod KindSheets
 pub mod Lent
 pub mod Rooms
 pub mod Validity

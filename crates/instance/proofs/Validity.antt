@@ -6,7 +6,7 @@ use lib.ListN.{length, get_or}
 use Rattle.theory.proofs.Numbering.{tabulate-length, tabulate-get_or}
 use Rattle.meaning.specs.Schema.{Attribute}
 use Rattle.meaning.specs.Formats as formats
-use Rattle.meaning.specs.Formats.{Kinds}
+use Rattle.meaning.specs.Formats.{kinds}
 use Rattle.meaning.specs.Views.{Shaped, count}
 use Rattle.agreement.proofs.Instances.{instance-is}
 use Rattle.agreement.specs.Valid.{ValidInstance}
@@ -46,5 +46,5 @@ module _ {t : Schema} (A : Sound t) (i : Instance) (links values : List ℕ) whe
         ∙ sym (ap (λ (x : Attribute). count I x.node) (tabulate-get_or t.attributes attribute _ a h) ∙ count_at t A i links values (get_or t.node a 0) (home_in t A a h));
   }
 
-  pub accepted-valid : {ks : Kinds} → Limits t i → Accepted ks t i links values → ValidInstance ks (schema_of t) I
-  accepted-valid {ks} L H = record { shaped = tables-shaped; is = instance-is ks (schema_of t) I tables-shaped H.links_in H.values_in H.obeys; few_rows = L.rows }
+  pub accepted-valid : Limits t i → Accepted t i links values → ValidInstance (schema_of t) I
+  accepted-valid L H = record { shaped = tables-shaped; is = instance-is kinds (schema_of t) I tables-shaped H.links_in H.values_in H.obeys; few_rows = L.rows }

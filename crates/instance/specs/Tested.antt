@@ -3,7 +3,7 @@ use Rattle.std.specs.Prelude.{ℕ, ◌*◌, ◌≡◌, Bool, true, List, ltb, ge
 use Rattle.meaning.specs.Lists.{all}
 use Rattle.meaning.specs.Sheet.{Judged}
 use Rattle.meaning.specs.Formats as formats
-use Rattle.meaning.specs.Formats.{Kinds, in_range}
+use Rattle.meaning.specs.Formats.{Kinds, kinds, in_range}
 use Rattle.meaning.specs.Judge.{links_in_range, values_in_range, obeys_equations}
 use Rattle.schema.specs.declared.Schema.{Schema}
 use Rattle.schema.specs.Decoded.{schema_of}
@@ -21,12 +21,12 @@ value_test node kind counts values ks a = all (in_range ks (get_or kind a 0)) (c
 -- ---- of a whole instance
 
 -- what the code that works on an accepted instance relies on
-pub record Accepted (ks : Kinds) (t : Schema) (i : Instance) (links values : List ℕ) : Type 0 where
+pub record Accepted (t : Schema) (i : Instance) (links values : List ℕ) : Type 0 where
   pub links_in : links_in_range (schema_of t) (tables_of t i links values) ≡ true
-  pub values_in : values_in_range ks (schema_of t) (tables_of t i links values) ≡ true
+  pub values_in : values_in_range kinds (schema_of t) (tables_of t i links values) ≡ true
   pub obeys : obeys_equations (schema_of t) (tables_of t i links values) ≡ true
 
-pub record Tested (ks : Kinds) (t : Schema) (i : Instance) (links values : List ℕ) (J : Judged formats.Instance) : Type 0 where
+pub record Tested (t : Schema) (i : Instance) (links values : List ℕ) (J : Judged formats.Instance) : Type 0 where
   pub says : judged_instance t i links values ≡ J
   pub limits : Limits t i
-  pub accepted : (i.fault ≡ 0 → Accepted ks t i links values)
+  pub accepted : (i.fault ≡ 0 → Accepted t i links values)

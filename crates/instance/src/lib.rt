@@ -3,16 +3,14 @@ pub mod copy;
 pub mod decode;
 pub mod follow;
 pub mod kinds;
-pub mod kinds_sheet;
 pub mod range;
 pub mod tables;
 
-ghost use Rattle.std.specs.Prelude.{◌≡◌, length};
+ghost use Rattle.std.specs.Prelude.{◌≡◌};
 ghost use Rattle.meaning.specs.Judge.{test_instance, judge_instance};
 ghost use Rattle.schema.specs.Decoded.{schema_of};
 ghost use Rattle.schema.specs.Judged.{Sound};
 ghost use Rattle.instance.specs.Decoded.{empty_instance, has_few_columns, tables_of, Limits, RoomFor};
-ghost use Rattle.instance.specs.Ranges.{max_ends, kinds_of};
 ghost use Rattle.instance.specs.Tested.{Tested};
 
 use schema::{Schema, faults};
@@ -64,19 +62,13 @@ pub fn has_few_columns(schema: Schema) -> bool
     false
 }
 
-// The tests from 9 up, of a sheet that was read, by a list of kinds.
-fn tested(
-    schema: Schema,
-    instance: Instance,
-    kinds: &[u32],
-    links: &[u32],
-    values: &[u32],
-) -> Instance
-    requires { Sound schema × Limits schema instance × RoomFor schema links.now values.now × (instance.fault ≡ 0) × (length kinds.now ≡ max_ends) }
-    ensures { Tested (kinds_of kinds.now) schema result links.now values.now (test_instance (kinds_of kinds.now) (schema_of schema) (tables_of schema instance links.now values.now)) }
+// The tests from 9 up, of a sheet that was read.
+fn tested(schema: Schema, instance: Instance, links: &[u32], values: &[u32]) -> Instance
+    requires { Sound schema × Limits schema instance × RoomFor schema links.now values.now × (instance.fault ≡ 0) }
+    ensures { Tested schema result links.now values.now (test_instance (schema_of schema) (tables_of schema instance links.now values.now)) }
 {
     if range::links_in_range(schema, instance, links) {
-        if range::values_in_range(schema, instance, values, kinds) {
+        if range::values_in_range(schema, instance, values, kinds::kinds()) {
             if follow::obeys_equations(schema, instance, links) {
                 return instance;
             }
@@ -87,20 +79,14 @@ fn tested(
     Instance::faulty(faults::DANGLING)
 }
 
-// An instance sheet of a schema judged by a list of kinds: what it says, or the first number that applies to it.
-pub fn judge_instance(
-    schema: Schema,
-    s: &[u8],
-    kinds: &[u32],
-    links: &mut [u32],
-    values: &mut [u32],
-) -> Instance
-    requires { Sound schema × RoomFor schema links.old values.old × (length kinds.now ≡ max_ends) }
-    ensures { Tested (kinds_of kinds.now) schema result links.new values.new (judge_instance (kinds_of kinds.now) (schema_of schema) s.now) }
+// An instance sheet of a schema judged: what it says, or the first number that applies to it.
+pub fn judge_instance(schema: Schema, s: &[u8], links: &mut [u32], values: &mut [u32]) -> Instance
+    requires { Sound schema × RoomFor schema links.old values.old }
+    ensures { Tested schema result links.new values.new (judge_instance (schema_of schema) s.now) }
 {
     let instance = decode::decode_instance(schema, s, &mut *links, &mut *values);
     if instance.fault == 0 {
-        return tested(schema, instance, kinds, &*links, &*values);
+        return tested(schema, instance, &*links, &*values);
     }
     instance
 }

@@ -8,7 +8,7 @@ ghost use Rattle.meaning.specs.Judge.{links_in_range, values_in_range};
 ghost use Rattle.schema.specs.Decoded.{schema_of};
 ghost use Rattle.schema.specs.Judged.{Sound};
 ghost use Rattle.instance.specs.Decoded.{column_of, tables_of, Columns, Limits};
-ghost use Rattle.instance.specs.Ranges.{max_ends, range_of, kinds_of};
+ghost use Rattle.instance.specs.Ranges.{range_of, kinds_of};
 ghost use Rattle.instance.specs.Tested.{link_test, value_test};
 
 use crate::Instance;
@@ -77,10 +77,10 @@ fn columns_in_range(
     kind: &[u8],
     counts: &[u32],
     values: &[u32],
-    kinds: &[u32],
+    kinds: [Range; Range::KINDS],
 ) -> bool
-    requires { (length kinds.now ≡ max_ends) × Columns n node.now counts.now × (n ≤ length kind.now) × (max_rows * n ≤ length values.now) }
-    ensures { result ≡ all (value_test node.now kind.now counts.now values.now (kinds_of kinds.now)) (tabulate n (λ a. a)) }
+    requires { Columns n node.now counts.now × (n ≤ length kind.now) × (max_rows * n ≤ length values.now) }
+    ensures { result ≡ all (value_test node.now kind.now counts.now values.now (kinds_of kinds)) (tabulate n (λ a. a)) }
 {
     let mut a = 0;
     while a < n {
@@ -108,9 +108,14 @@ pub fn links_in_range(schema: Schema, instance: Instance, links: &[u32]) -> bool
 }
 
 // Refusal 10 (off scale).
-pub fn values_in_range(schema: Schema, instance: Instance, values: &[u32], kinds: &[u32]) -> bool
-    requires { (length kinds.now ≡ max_ends) × Sound schema × Limits schema instance × (max_rows * schema.attributes ≤ length values.now) }
-    ensures { result ≡ values_in_range (kinds_of kinds.now) (schema_of schema) (tables_of schema instance [] values.now) }
+pub fn values_in_range(
+    schema: Schema,
+    instance: Instance,
+    values: &[u32],
+    kinds: [Range; Range::KINDS],
+) -> bool
+    requires { Sound schema × Limits schema instance × (max_rows * schema.attributes ≤ length values.now) }
+    ensures { result ≡ values_in_range (kinds_of kinds) (schema_of schema) (tables_of schema instance [] values.now) }
 {
     let node = schema.node;
     let kind = schema.kind;

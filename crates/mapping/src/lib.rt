@@ -6,7 +6,7 @@ pub mod fits;
 pub mod images;
 
 ghost use Rattle.std.specs.Prelude.{◌≡◌};
-ghost use Rattle.meaning.specs.SchemaKinds.{judge_mapping, listed};
+ghost use Rattle.meaning.specs.Judge.{judge_mapping};
 ghost use Rattle.schema.specs.Decoded.{schema_of, category_of};
 ghost use Rattle.schema.specs.Judged as schemas;
 ghost use Rattle.mapping.specs.Decoded.{empty_image, empty_mapping};
@@ -79,7 +79,7 @@ pub fn judge_mapping<'a>(
     sheet: &[u8],
 ) -> Mapping
     requires { schemas.Sound s × schemas.Sound t × Numbers (schema_of t) first.now rank.now class.now }
-    ensures { Says s t result (judge_mapping listed (category_of s) (category_of t) sheet.now) }
+    ensures { Says s t result (judge_mapping (category_of s) (category_of t) sheet.now) }
 {
     let f = decode::decode_mapping(s, sheet);
     if f.fault > 0 {

@@ -12,8 +12,7 @@ use Rattle.theory.specs.Numbering.{sum}
 use Rattle.meaning.specs.Lists.{upto, filter, concat_map, same_list}
 use Rattle.meaning.specs.Schema.{path, leaving}
 use Rattle.meaning.specs.Views.{node_image}
-use Rattle.meaning.specs.Formats.{kinds}
-use Rattle.meaning.specs.SchemaKinds.{listed}
+use Rattle.meaning.specs.Category.{listed_category}
 use Rattle.meaning.specs.Evenness as evenness
 use Rattle.meaning.specs.Calls.{Outcome, refused, accepted, ◌>>=◌, check_schema, path_question, Migration, migration, Migrated, delta_tables, sigma_tables, pi_tables, sheet_of, Sides, sides}
 use Rattle.meaning.proofs.Examples.{vendor, operator, vendor_to_operator, run, pushed_run, book, arrow, point, arrow_to_point, arrow_run, fork, line, fork_to_line, fork_run, joint_weld, pair, joint_weld_to_pair, joint_weld_run, short_rule, long_rule, ab, cd, abf, cdf, ab_and_byte}
@@ -46,16 +45,16 @@ abbrev pub links_of : Migrated → Answer
 links_of m = links m.tables.counts m.tables.links
 
 abbrev pub pushed_lists : Sides → Answer
-pushed_lists x = lists (matchings x.m.T.schema x.pushed x.book)
+pushed_lists x = lists (matchings x.m.T x.pushed x.book)
 
 abbrev pub raw_lists : Sides → Answer
-raw_lists x = lists (matchings x.m.S.schema x.run x.pulled)
+raw_lists x = lists (matchings x.m.S x.run x.pulled)
 
 -- for each node c of S, the lifts of each edge of T that leaves F(c)
 abbrev pub lifts_of : Migration → Answer
 lifts_of m = lifts (concat_map (λ c.
-    map (λ e. length (evenness.lifts m.S m.T m.F c (path (node_image m.F c) (e ∷ [])))) (leaving m.T.schema.graph (node_image m.F c)))
-    (upto m.S.schema.graph.nodes))
+    map (λ e. length (evenness.lifts (listed_category m.S) (listed_category m.T) m.F c (path (node_image m.F c) (e ∷ [])))) (leaving m.T.graph (node_image m.F c)))
+    (upto m.S.graph.nodes))
 
 -- two path questions: whether their answers are the same
 abbrev pub same_answers : List ℕ → List ℕ → List ℕ → Outcome Answer
@@ -74,19 +73,19 @@ case n y p = record { number = n; yields = y; paper = p }
 
 abbrev pub cases : List Case
 cases =
-    case 1 (told bytes (sheet_of (sigma_tables listed kinds vendor operator vendor_to_operator run))) (accepted (bytes pushed_run)) ∷
-    case 2 (told counts_of (delta_tables listed kinds vendor operator vendor_to_operator pushed_run)) (accepted (counts (3 ∷ 2 ∷ 3 ∷ []))) ∷
-    case 3 (told pushed_lists (sides listed kinds vendor operator vendor_to_operator run book)) (accepted (lists ((2 ∷ 0 ∷ 1 ∷ 0 ∷ 1 ∷ []) ∷ []))) ∷
-    case 3 (told raw_lists (sides listed kinds vendor operator vendor_to_operator run book)) (accepted (lists ((2 ∷ 0 ∷ 0 ∷ 1 ∷ 1 ∷ []) ∷ []))) ∷
-    case 4 (told counts_of (sigma_tables listed kinds arrow point arrow_to_point arrow_run)) (refused 12 0) ∷
-    case 4 (told counts_of (pi_tables listed kinds arrow point arrow_to_point arrow_run)) (accepted (counts (3 ∷ []))) ∷
-    case 5 (told counts_of (sigma_tables listed kinds fork line fork_to_line fork_run)) (refused 12 0) ∷
-    case 5 (told lifts_of (migration listed fork line fork_to_line)) (accepted (lifts (1 ∷ 1 ∷ []))) ∷
-    case 6 (told links_of (pi_tables listed kinds joint_weld pair joint_weld_to_pair joint_weld_run))
+    case 1 (told bytes (sheet_of (sigma_tables vendor operator vendor_to_operator run))) (accepted (bytes pushed_run)) ∷
+    case 2 (told counts_of (delta_tables vendor operator vendor_to_operator pushed_run)) (accepted (counts (3 ∷ 2 ∷ 3 ∷ []))) ∷
+    case 3 (told pushed_lists (sides vendor operator vendor_to_operator run book)) (accepted (lists ((2 ∷ 0 ∷ 1 ∷ 0 ∷ 1 ∷ []) ∷ []))) ∷
+    case 3 (told raw_lists (sides vendor operator vendor_to_operator run book)) (accepted (lists ((2 ∷ 0 ∷ 0 ∷ 1 ∷ 1 ∷ []) ∷ []))) ∷
+    case 4 (told counts_of (sigma_tables arrow point arrow_to_point arrow_run)) (refused 12 0) ∷
+    case 4 (told counts_of (pi_tables arrow point arrow_to_point arrow_run)) (accepted (counts (3 ∷ []))) ∷
+    case 5 (told counts_of (sigma_tables fork line fork_to_line fork_run)) (refused 12 0) ∷
+    case 5 (told lifts_of (migration fork line fork_to_line)) (accepted (lifts (1 ∷ 1 ∷ []))) ∷
+    case 6 (told links_of (pi_tables joint_weld pair joint_weld_to_pair joint_weld_run))
     (accepted (links (6 ∷ 2 ∷ 3 ∷ []) ((0 ∷ 0 ∷ 0 ∷ 1 ∷ 1 ∷ 1 ∷ []) ∷ (0 ∷ 1 ∷ 2 ∷ 0 ∷ 1 ∷ 2 ∷ []) ∷ []))) ∷
     case 7 (same_answers short_rule abf cdf) (accepted (equal true)) ∷
     case 8 (same_answers long_rule ab cd) (accepted (equal false)) ∷
-    case 9 (told (λ _. checked) (check_schema listed [])) (refused 1 1) ∷
+    case 9 (told (λ _. checked) (check_schema [])) (refused 1 1) ∷
     case 9 (told bytes (path_question short_rule ab_and_byte)) (refused 2 2) ∷
     []
 

@@ -10,11 +10,10 @@ use borrow.Author.Tests.{leb-true, not-true}
 use Rattle.meaning.specs.Lists.{sum_of}
 use Rattle.meaning.specs.Schema.{Equation, Schema, source, target, attribute_at, has_loop}
 use Rattle.meaning.specs.Sheet.{sound, on_sheet}
-use Rattle.meaning.specs.Formats.{Counts, Mapping, Instance, max_nodes, max_edges, max_attributes, max_equations, max_rows, kind_count, counts_in_limits, read_edges, read_path, read_counts, read_edge, read_attribute, read_equation, read_lists, read_schema, read_mapping, read_tables, read_instance, read_matching, read_kinds, Kinds}
+use Rattle.meaning.specs.Formats.{Counts, Mapping, Instance, max_nodes, max_edges, max_attributes, max_equations, max_rows, counts_in_limits, read_edges, read_path, read_counts, read_edge, read_attribute, read_equation, read_lists, read_schema, read_mapping, read_tables, read_instance, read_matching, kinds}
 use Rattle.meaning.specs.Views.{Shaped, count, link, value, node_image, edge_image, attribute_image}
 use Rattle.meaning.specs.Category.{Category}
-use Rattle.meaning.specs.Judge.{is_well_formed, has_few_paths, test_schema, judge_schema, judge_instance, images_fit, keeps_equations, links_in_range, values_in_range, obeys_equations}
-use Rattle.meaning.specs.SchemaKinds.{SchemaKind, judge_mapping}
+use Rattle.meaning.specs.Judge.{is_well_formed, has_few_paths, test_schema, judge_schema, judge_mapping, judge_instance, images_fit, keeps_equations, links_in_range, values_in_range, obeys_equations}
 use Rattle.meaning.specs.Matching.{is_matching, judge_matching}
 use Rattle.meaning.proofs.Tabulate.{and_both}
 use Rattle.meaning.proofs.Readers.{Gives, gives-bind, gives-give, gives_as, gives-field, gives-ensure, gives-finish, Every, none, every_in, every-at, gives-times, pointwise-length, pointwise-at, pointwise-every, gives-in_turn, sound-same, given, bind-sound, ensure-sound}
@@ -128,6 +127,13 @@ schema-facts s e =
     })
 
 -- ---- mappings
+pub record MappingFacts (S T : Category) (F : Mapping) : Type 0 where
+  pub nodes : length F.nodes ≡ S.schema.graph.nodes
+  pub edges : length F.edges ≡ length S.schema.graph.edges
+  pub attributes : length F.attributes ≡ length S.schema.attributes
+  pub fits : images_fit S.schema T.schema F ≡ true
+  pub keeps : keeps_equations S T F ≡ true
+  pub short : (e : ℕ) → length (edge_image F e) ≤ 15
 
 -- each list is as long as S says, and each number fits its field
 pub record FitsSheet (S : Schema) (F : Mapping) : Type 0 where
@@ -155,18 +161,30 @@ gives-mapping S =
       attribute_below = every-at a.1 0 (omega arith);
     })))))
 
--- of a sheet that reads as a mapping of document 01's schemas
-pub mapping-sheet-fits : (S : Schema) (s : List ℕ) {F : Mapping} → on_sheet (read_mapping S) s ≡ sound F → FitsSheet S F
-mapping-sheet-fits S s e = given (gives-mapping S) s e
+module _ (S : Schema) (s : List ℕ) where
+  -- of a sheet that reads as a mapping
+  pub mapping-sheet-fits : {F : Mapping} → on_sheet (read_mapping S) s ≡ sound F → FitsSheet S F
+  mapping-sheet-fits e = given (gives-mapping S) s e
 
-module _ (K : SchemaKind) (S T : Category) (s : List ℕ) where
-  pub mapping-passed : {F : Mapping} → judge_mapping K S T s ≡ sound F
-      → (on_sheet (K.read_mapping S.schema) s ≡ sound F) × (images_fit S.schema T.schema F ≡ true) × (keeps_equations S T F ≡ true)
+  pub mapping-sized : {F : Mapping} → on_sheet (read_mapping S) s ≡ sound F → length F.nodes ≡ S.graph.nodes
+  mapping-sized e = (mapping-sheet-fits e).nodes
+
+module _ (S T : Category) (s : List ℕ) where
+  mapping-passed : {F : Mapping} → judge_mapping S T s ≡ sound F → (on_sheet (read_mapping S.schema) s ≡ sound F) × (images_fit S.schema T.schema F ≡ true) × (keeps_equations S T F ≡ true)
   mapping-passed e =
-      let r = bind-sound (on_sheet (K.read_mapping S.schema) s) _ e in
+      let r = bind-sound (on_sheet (read_mapping S.schema) s) _ e in
       let f = ensure-sound (images_fit S.schema T.schema r.0) 7 _ r.2 in
       let k = ensure-sound (keeps_equations S T r.0) 8 _ f.1 in
       rw (← sound-same k.1) (r.1, f.0, k.0)
+
+  pub mapping-read : {F : Mapping} → judge_mapping S T s ≡ sound F → on_sheet (read_mapping S.schema) s ≡ sound F
+  mapping-read e = (mapping-passed e).0
+
+  pub mapping-facts : {F : Mapping} → judge_mapping S T s ≡ sound F → MappingFacts S T F
+  mapping-facts e =
+      let t = mapping-passed e in
+      let g = mapping-sheet-fits S.schema s t.0 in
+      record { nodes = g.nodes; edges = g.edges; attributes = g.attributes; fits = t.1; keeps = t.2; short = g.short }
 
 -- ---- instances
 
@@ -176,12 +194,12 @@ pub record FitsFields (I : Instance) : Type 0 where
   pub link_below : (e r : ℕ) → link I e r < 2 ^ 9
   pub value_below : (a r : ℕ) → value I a r < 2 ^ 32
 
-pub record InstanceFacts (ks : Kinds) (S : Schema) (I : Instance) : Type 0 where
+pub record InstanceFacts (S : Schema) (I : Instance) : Type 0 where
   pub shaped : Shaped S I
   pub fits_fields : FitsFields I
   pub few_rows : sum_of I.counts ≤ max_rows
   pub links : links_in_range S I ≡ true
-  pub values : values_in_range ks S I ≡ true
+  pub values : values_in_range kinds S I ≡ true
   pub equations : obeys_equations S I ≡ true
 
 record InstanceRead (S : Schema) (I : Instance) : Type 0 where
@@ -224,35 +242,27 @@ gives-instance S =
       few_rows = rw t.counts_are (leb-true (sum_of counts) max_rows few);
     })))
 
--- of a sheet that reads as an instance
-pub instance-shaped : (S : Schema) (s : List ℕ) {I : Instance} → on_sheet (read_instance S) s ≡ sound I → Shaped S I
-instance-shaped S s e = (given (gives-instance S) s e).shaped
-
-module _ (ks : Kinds) (S : Schema) (s : List ℕ) where
-  instance-passed : {I : Instance} → judge_instance ks S s ≡ sound I → (on_sheet (read_instance S) s ≡ sound I) × (links_in_range S I ≡ true) × (values_in_range ks S I ≡ true) × (obeys_equations S I ≡ true)
+module _ (S : Schema) (s : List ℕ) where
+  instance-passed : {I : Instance} → judge_instance S s ≡ sound I → (on_sheet (read_instance S) s ≡ sound I) × (links_in_range S I ≡ true) × (values_in_range kinds S I ≡ true) × (obeys_equations S I ≡ true)
   instance-passed e =
       let r = bind-sound (on_sheet (read_instance S) s) _ e in
       let l = ensure-sound (links_in_range S r.0) 9 _ r.2 in
-      let v = ensure-sound (values_in_range ks S r.0) 10 _ l.1 in
+      let v = ensure-sound (values_in_range kinds S r.0) 10 _ l.1 in
       let q = ensure-sound (obeys_equations S r.0) 11 _ v.1 in
       rw (← sound-same q.1) (r.1, l.0, v.0, q.0)
 
-  pub instance-read : {I : Instance} → judge_instance ks S s ≡ sound I → on_sheet (read_instance S) s ≡ sound I
+  -- of a sheet that reads as an instance
+  pub instance-shaped : {I : Instance} → on_sheet (read_instance S) s ≡ sound I → Shaped S I
+  instance-shaped e = (given (gives-instance S) s e).shaped
+
+  pub instance-read : {I : Instance} → judge_instance S s ≡ sound I → on_sheet (read_instance S) s ≡ sound I
   instance-read e = (instance-passed e).0
 
-  pub instance-facts : {I : Instance} → judge_instance ks S s ≡ sound I → InstanceFacts ks S I
+  pub instance-facts : {I : Instance} → judge_instance S s ≡ sound I → InstanceFacts S I
   instance-facts e =
       let t = instance-passed e in
       let g = given (gives-instance S) s t.0 in
       record { shaped = g.shaped; fits_fields = g.fits_fields; few_rows = g.few_rows; links = t.1; values = t.2; equations = t.3 }
-
--- ---- kinds
-
--- each number fits its field
-pub gives-kinds : Gives read_kinds (λ ks. (length ks ≡ kind_count) × Every (λ r. (r.smallest < 2 ^ 32) × (r.largest < 2 ^ 32)) ks)
-gives-kinds =
-    gives-bind (gives-times kind_count (gives-bind (gives-field 32) (λ a h. gives-bind (gives-field 32) (λ b k. gives-give (h, k))))) (λ ks e.
-    gives-bind gives-finish (λ _ _. gives-give e))
 
 -- ---- matchings
 pub record MatchingFacts (S : Schema) (A B : Instance) (l : List ℕ) : Type 0 where

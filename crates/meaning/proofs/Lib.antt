@@ -8,7 +8,6 @@ pub mod Facts
 pub mod FieldsAt
 pub mod Written
 pub mod MappingSheets
-pub mod KindsSheets
 pub mod Heights
 pub mod PathLevels
 pub mod PathCounts
@@ -25,4 +24,3 @@ pub mod MoreCases
 pub mod QueryCases
 pub mod ChangeCases
 pub mod CompositionCases
-pub mod KindsCases

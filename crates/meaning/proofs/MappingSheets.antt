@@ -14,11 +14,10 @@ use Rattle.meaning.specs.Schema.{Schema}
 use Rattle.meaning.specs.Category.{Category}
 use Rattle.meaning.specs.Sheet.{reads, times, field, sound, on_sheet}
 use Rattle.meaning.specs.Formats.{Mapping, fields_of, edges_fields, mapping_fields, mapping_sheet, read_edges, read_mapping, max_mapping_bytes}
-use Rattle.meaning.specs.Judge.{images_fit, keeps_equations}
-use Rattle.meaning.specs.SchemaKinds.{judge_mapping, listed}
+use Rattle.meaning.specs.Judge.{images_fit, keeps_equations, judge_mapping}
 use Rattle.meaning.proofs.Readers.{judged-sound, reads_same, after-reads, ensure-reads, gives-field, gives-times}
 use Rattle.meaning.proofs.FieldsAt.{FieldsAt, one, fields_at-append, fields_at-split, field-fields_at, fields_at-field, times-fields_at, fields_at-times, many-fields_at, fields_at-many, fit_append, fit-fields, pack-fields_at, fields_at-pack, fields_of-width, sum_below, bytes-within}
-use Rattle.meaning.proofs.Facts.{SchemaFacts, FitsSheet, mapping-passed}
+use Rattle.meaning.proofs.Facts.{SchemaFacts, FitsSheet, mapping-read}
 
 -- ---- the fields of a mapping
 module _ (s : List ℕ) where
@@ -83,12 +82,12 @@ module _ (S : Schema) {F : Mapping} where
 
 module _ (S T : Category) {F : Mapping} where
   -- what passes the tests is accepted as it is written
-  pub mapping-sheet-judged : FitsSheet S.schema F → images_fit S.schema T.schema F ≡ true → keeps_equations S T F ≡ true → judge_mapping listed S T (mapping_sheet F) ≡ sound F
+  pub mapping-sheet-judged : FitsSheet S.schema F → images_fit S.schema T.schema F ≡ true → keeps_equations S T F ≡ true → judge_mapping S T (mapping_sheet F) ≡ sound F
   mapping-sheet-judged fits images keeps = rw (mapping-sheet-read S.schema fits, images, keeps)
 
   -- an accepted sheet of bytes is the sheet of what it says
-  pub mapping-judged-sheet : (s : List ℕ) → Bytes s → judge_mapping listed S T s ≡ sound F → s ≡ mapping_sheet F
-  mapping-judged-sheet s b e = mapping-read-sheet S.schema s b (mapping-passed listed S T s e).0
+  pub mapping-judged-sheet : (s : List ℕ) → Bytes s → judge_mapping S T s ≡ sound F → s ≡ mapping_sheet F
+  mapping-judged-sheet s b e = mapping-read-sheet S.schema s b (mapping-read S T s e)
 
 -- ---- byte lengths
 edges-width : (ls : List (List ℕ)) → total_width (concat_map edges_fields ls) ≡ 4 * length ls + 5 * sum_of (map length ls)

@@ -12,12 +12,10 @@ use Rattle.bits.specs.Pack.{pack, gather, bits_of, digits, number, total_width}
 use Rattle.theory.specs.Numbering.{sum}
 use Rattle.meaning.specs.Lists.{sum_of}
 use Rattle.meaning.specs.Schema.{Schema}
-use Rattle.meaning.specs.Category.{listed_category}
 use Rattle.meaning.specs.Sheet.{Judged, faulty, sound}
-use Rattle.meaning.specs.Formats.{Instance, kinds, matching_sheet}
+use Rattle.meaning.specs.Formats.{Instance, matching_sheet}
 use Rattle.meaning.specs.Views.{count}
 use Rattle.meaning.specs.Matching.{is_matching, judge_matching}
-use Rattle.meaning.specs.SchemaKinds.{listed}
 use Rattle.meaning.specs.Calls.{Outcome, accepted, ◌>>=◌, at, Sides, sides, check_pushed, check_raw}
 use Rattle.meaning.proofs.Facts.{matching-facts}
 use Rattle.meaning.proofs.Written.{matching-judged-sheet}
@@ -28,16 +26,16 @@ use Rattle.meaning.proofs.Examples.{vendor, operator, vendor_to_operator, run, b
 abbrev pub base : Sides
 base = record {
   m = record {
-    S = listed_category (record {
+    S = record {
       graph = record { nodes = 3; edges = record { source = 0; target = 1 } ∷ record { source = 2; target = 1 } ∷ [] };
       attributes = record { node = 0; kind = 1 } ∷ record { node = 2; kind = 1 } ∷ [];
       equations = [];
-    });
-    T = listed_category (record {
+    };
+    T = record {
       graph = record { nodes = 2; edges = record { source = 0; target = 1 } ∷ [] };
       attributes = record { node = 0; kind = 1 } ∷ [];
       equations = [];
-    });
+    };
     F = record { nodes = 0 ∷ 1 ∷ 0 ∷ []; edges = (0 ∷ []) ∷ (0 ∷ []) ∷ []; attributes = 0 ∷ 0 ∷ [] };
   };
   run = record { counts = 2 ∷ 2 ∷ 1 ∷ []; links = (1 ∷ 0 ∷ []) ∷ (1 ∷ []) ∷ []; values = (700 ∷ 300 ∷ []) ∷ (705 ∷ []) ∷ [] };
@@ -48,13 +46,13 @@ base = record {
 
 -- the only matchings are 2 0 1 0 1 (pushed) and 2 0 0 1 1 (raw), as lists and as sheets
 pub record OnlyMatchings : Type 0 where
-  pub read : sides listed kinds vendor operator vendor_to_operator run book ≡ accepted base
-  pub pushed-list : (l : List ℕ) → length l ≡ 5 → is_matching base.m.T.schema base.pushed base.book l ≡ true ↔ l ≡ 2 ∷ 0 ∷ 1 ∷ 0 ∷ 1 ∷ []
-  pub raw-list : (l : List ℕ) → length l ≡ 5 → is_matching base.m.S.schema base.run base.pulled l ≡ true ↔ l ≡ 2 ∷ 0 ∷ 0 ∷ 1 ∷ 1 ∷ []
-  pub pushed-sheet : (k : List ℕ) → Bytes k → check_pushed listed kinds vendor operator vendor_to_operator run book k ≡ accepted tt ↔ k ≡ pushed_list
-  pub raw-sheet : (k : List ℕ) → Bytes k → check_raw listed kinds vendor operator vendor_to_operator run book k ≡ accepted tt ↔ k ≡ raw_list
+  pub read : sides vendor operator vendor_to_operator run book ≡ accepted base
+  pub pushed-list : (l : List ℕ) → length l ≡ 5 → is_matching base.m.T base.pushed base.book l ≡ true ↔ l ≡ 2 ∷ 0 ∷ 1 ∷ 0 ∷ 1 ∷ []
+  pub raw-list : (l : List ℕ) → length l ≡ 5 → is_matching base.m.S base.run base.pulled l ≡ true ↔ l ≡ 2 ∷ 0 ∷ 0 ∷ 1 ∷ 1 ∷ []
+  pub pushed-sheet : (k : List ℕ) → Bytes k → check_pushed vendor operator vendor_to_operator run book k ≡ accepted tt ↔ k ≡ pushed_list
+  pub raw-sheet : (k : List ℕ) → Bytes k → check_raw vendor operator vendor_to_operator run book k ≡ accepted tt ↔ k ≡ raw_list
 
-base_read : sides listed kinds vendor operator vendor_to_operator run book ≡ accepted base
+base_read : sides vendor operator vendor_to_operator run book ≡ accepted base
 unfolding field bit tail_ok
 base_read = refl
 
@@ -65,11 +63,11 @@ record Only (S : Schema) (A B : Instance) (l : List ℕ) : Type 0 where
   read : judge_matching S A B (matching_sheet l) ≡ sound l
   whole : sum_of A.counts ≡ sum (count A) S.graph.nodes
 
-only-pushed : Only base.m.T.schema base.pushed base.book (2 ∷ 0 ∷ 1 ∷ 0 ∷ 1 ∷ [])
+only-pushed : Only base.m.T base.pushed base.book (2 ∷ 0 ∷ 1 ∷ 0 ∷ 1 ∷ [])
 unfolding field bit tail_ok pack gather bits_of digits number total_width sum
 only-pushed = record { listed = refl; matches = refl; read = refl; whole = refl }
 
-only-raw : Only base.m.S.schema base.run base.pulled (2 ∷ 0 ∷ 0 ∷ 1 ∷ 1 ∷ [])
+only-raw : Only base.m.S base.run base.pulled (2 ∷ 0 ∷ 0 ∷ 1 ∷ 1 ∷ [])
 unfolding field bit tail_ok pack gather bits_of digits number total_width sum
 only-raw = record { listed = refl; matches = refl; read = refl; whole = refl }
 

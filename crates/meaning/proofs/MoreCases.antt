@@ -10,8 +10,6 @@ use native.Mathlib.Decide.{ℕ_discrete, dec_le}
 use Rattle.theory.specs.Numbering.{sum, locate}
 use Rattle.theory.specs.Sigma.{share}
 use Rattle.theory.specs.Matching.{partners}
-use Rattle.meaning.specs.Formats.{kinds}
-use Rattle.meaning.specs.SchemaKinds.{listed}
 use Rattle.meaning.specs.Calls.{Outcome, refused, accepted, check_schema, check_instance, path_question, delta_tables, sigma_tables, pi_tables, sheet_of, pushed_to_raw, raw_to_pushed, Lent, in_tray}
 use Rattle.meaning.specs.Program.{codes, push}
 use Rattle.meaning.proofs.Examples.{vendor, operator, vendor_to_operator, run, pushed_run, book, pushed_list, raw_list, point, short_rule, long_rule, cd, abf, cdf}
@@ -89,15 +87,15 @@ prints text = accepted (bytes text)
 
 abbrev pub more_cases : List Example
 more_cases =
-    example "case 10: 256 paths" (check (check_schema listed doubled_chain)) (accepted checked) ∷
-    example "case 10: 257 paths" (check (check_schema listed doubled_chain_and_edge)) (refused 6 1) ∷
-    example "case 11: 512 rows" (check (check_instance listed kinds point (0x80 ∷ 0x00 ∷ []))) (accepted checked) ∷
-    example "case 11: 513 rows" (check (check_instance listed kinds point (0x80 ∷ 0x40 ∷ []))) (refused 3 2) ∷
-    example "case 11: clock 720" (check (check_instance listed kinds clock (0x00 ∷ 0x40 ∷ 0x00 ∷ 0x00 ∷ 0xB4 ∷ 0x00 ∷ []))) (accepted checked) ∷
-    example "case 11: clock 721" (check (check_instance listed kinds clock (0x00 ∷ 0x40 ∷ 0x00 ∷ 0x00 ∷ 0xB4 ∷ 0x40 ∷ []))) (refused 10 2) ∷
-    example "case 11: clock 0" (check (check_instance listed kinds clock (0x00 ∷ 0x40 ∷ 0x00 ∷ 0x00 ∷ 0x00 ∷ 0x00 ∷ []))) (refused 10 2) ∷
-    example "case 12: 17 bytes" (lent (in_tray (replicate 17 0) (sheet_of (sigma_tables listed kinds vendor operator vendor_to_operator run)))) (refused 16 0) ∷
-    example "case 12: 18 bytes" (lent (in_tray (replicate 18 0) (sheet_of (sigma_tables listed kinds vendor operator vendor_to_operator run)))) (accepted (bytes pushed_run)) ∷
+    example "case 10: 256 paths" (check (check_schema doubled_chain)) (accepted checked) ∷
+    example "case 10: 257 paths" (check (check_schema doubled_chain_and_edge)) (refused 6 1) ∷
+    example "case 11: 512 rows" (check (check_instance point (0x80 ∷ 0x00 ∷ []))) (accepted checked) ∷
+    example "case 11: 513 rows" (check (check_instance point (0x80 ∷ 0x40 ∷ []))) (refused 3 2) ∷
+    example "case 11: clock 720" (check (check_instance clock (0x00 ∷ 0x40 ∷ 0x00 ∷ 0x00 ∷ 0xB4 ∷ 0x00 ∷ []))) (accepted checked) ∷
+    example "case 11: clock 721" (check (check_instance clock (0x00 ∷ 0x40 ∷ 0x00 ∷ 0x00 ∷ 0xB4 ∷ 0x40 ∷ []))) (refused 10 2) ∷
+    example "case 11: clock 0" (check (check_instance clock (0x00 ∷ 0x40 ∷ 0x00 ∷ 0x00 ∷ 0x00 ∷ 0x00 ∷ []))) (refused 10 2) ∷
+    example "case 12: 17 bytes" (lent (in_tray (replicate 17 0) (sheet_of (sigma_tables vendor operator vendor_to_operator run)))) (refused 16 0) ∷
+    example "case 12: 18 bytes" (lent (in_tray (replicate 18 0) (sheet_of (sigma_tables vendor operator vendor_to_operator run)))) (accepted (bytes pushed_run)) ∷
     example "case 7: the first of abf and cdf" (told bytes (path_question short_rule cdf)) (accepted (bytes abf)) ∷
     example "and of abf" (told bytes (path_question short_rule abf)) (accepted (bytes abf)) ∷
     example "case 8: cd stands for itself" (told bytes (path_question long_rule cd)) (accepted (bytes cd)) ∷
@@ -112,12 +110,12 @@ more_cases =
     example "no input" (prints (push [])) (prints (codes "refused 1 1\n")) ∷
     example "a length of 256 and 7 bytes" (prints (push (1 ∷ 0 ∷ vendor))) (prints (codes "refused 1 2\n")) ∷
     example "ten digits" (prints (push ((0 ∷ 4 ∷ station) ++ (0 ∷ 4 ∷ station) ++ (0 ∷ 1 ∷ 0x00 ∷ []) ++ (0 ∷ 6 ∷ largest_value)))) (prints (codes "tables 1 rows 1\n0 0 4294967295\n")) ∷
-    example "case 3's pushed matching turned" (told bytes (pushed_to_raw listed kinds vendor operator vendor_to_operator run book pushed_list)) (accepted (bytes raw_list)) ∷
-    example "and turned back" (told bytes (raw_to_pushed listed kinds vendor operator vendor_to_operator run book raw_list)) (accepted (bytes pushed_list)) ∷
-    example "equal raw rows are kept" (told counts_of (sigma_tables listed kinds vendor operator vendor_to_operator equal_rows)) (accepted (counts (3 ∷ 1 ∷ []))) ∷
-    example "a table without components" (told counts_of (pi_tables listed kinds point two_points (0x10 ∷ []) (0x00 ∷ 0x80 ∷ []))) (accepted (counts (1 ∷ 2 ∷ []))) ∷
-    example "80 components" (told counts_of (pi_tables listed kinds points five_edges (replicate 8 0x11) (replicate 20 0))) (refused 14 0) ∷
-    example "300 rows twice" (told counts_of (delta_tables listed kinds two_points point (0x00 ∷ []) (0x4B ∷ 0x00 ∷ []))) (refused 15 0) ∷
+    example "case 3's pushed matching turned" (told bytes (pushed_to_raw vendor operator vendor_to_operator run book pushed_list)) (accepted (bytes raw_list)) ∷
+    example "and turned back" (told bytes (raw_to_pushed vendor operator vendor_to_operator run book raw_list)) (accepted (bytes pushed_list)) ∷
+    example "equal raw rows are kept" (told counts_of (sigma_tables vendor operator vendor_to_operator equal_rows)) (accepted (counts (3 ∷ 1 ∷ []))) ∷
+    example "a table without components" (told counts_of (pi_tables point two_points (0x10 ∷ []) (0x00 ∷ 0x80 ∷ []))) (accepted (counts (1 ∷ 2 ∷ []))) ∷
+    example "80 components" (told counts_of (pi_tables points five_edges (replicate 8 0x11) (replicate 20 0))) (refused 14 0) ∷
+    example "300 rows twice" (told counts_of (delta_tables two_points point (0x00 ∷ []) (0x4B ∷ 0x00 ∷ []))) (refused 15 0) ∷
     []
 
 pub more-cases-hold : map (λ r. r.yields) more_cases ≡ map (λ r. r.paper) more_cases

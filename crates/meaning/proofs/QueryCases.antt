@@ -7,8 +7,6 @@ use Rattle.bits.specs.Field.{field, bit, tail_ok}
 use Rattle.bits.specs.Pack.{pack, gather, bits_of, digits, number, total_width}
 use native.Mathlib.Decide.{ℕ_discrete, dec_le}
 use Rattle.theory.specs.Numbering.{sum}
-use Rattle.meaning.specs.Formats.{kinds}
-use Rattle.meaning.specs.SchemaKinds.{listed}
 use Rattle.meaning.specs.Calls.{refused, accepted, delta_tables, sigma_tables, pi_tables, sheet_of, ◌>>=◌, in_tray}
 use Rattle.meaning.specs.Query.{query_tables}
 use Rattle.meaning.specs.Program.{codes, dig}
@@ -58,9 +56,9 @@ abbrev pub query_cases : List Example
 query_cases =
     example "a query" (told bytes (sheet_of (query_tables vendor needed joins digs from_vendor to_joins to_digs run))) (accepted (bytes dug_run)) ∷
     example "the three calls in turn" (told bytes (do
-      d ← sheet_of (delta_tables listed kinds needed vendor from_vendor run)
-      p ← sheet_of (pi_tables listed kinds needed joins to_joins d)
-      sheet_of (sigma_tables listed kinds joins digs to_digs p))) (accepted (bytes dug_run)) ∷
+      d ← sheet_of (delta_tables needed vendor from_vendor run)
+      p ← sheet_of (pi_tables needed joins to_joins d)
+      sheet_of (sigma_tables joins digs to_digs p))) (accepted (bytes dug_run)) ∷
     example "a tray of 18 bytes" (lent (in_tray (replicate 18 0) (sheet_of (query_tables vendor needed joins digs from_vendor to_joins to_digs run)))) (accepted (bytes dug_run)) ∷
     example "a tray of 17 bytes" (lent (in_tray (replicate 17 0) (sheet_of (query_tables vendor needed joins digs from_vendor to_joins to_digs run)))) (refused 16 0) ∷
     example "printed" (prints (dig input)) (prints (codes "tables 2 rows 5\n0 0 0 700\n0 1 1 300\n0 2 0 705\n1 0\n1 1\n")) ∷

@@ -1,6 +1,5 @@
 -- What each call yields: a refusal's number and place, or a result. Sheets are judged in the order of their places, then 12, 13, 14, 15
--- at place 0, then the matching sheet, last 16 (document 01, 'Why a sheet is sent back'). A call takes a kind of schema, but for the two on paths, and where
--- it is lent an instance the list of kinds by which values are judged; which calls are lent a list of their own is said in OwnKinds (document 02, C-18).
+-- at place 0, then the matching sheet, last 16 (document 01, 'Why a sheet is sent back').
 use Rattle.std.specs.Prelude.{ℕ, Bool, true, false, cond, List, [], ◌++◌, length, drop, leb}
 use Rattle.std.proofs.Math.Option.{Option, none, some}
 use Rattle.theory.specs.Transposition.{to_raw, to_pushed}
@@ -8,12 +7,11 @@ use Rattle.meaning.specs.Lists.{sum_of}
 use Rattle.meaning.specs.Schema.{Schema}
 use Rattle.meaning.specs.PathChain.{Step, first_chain}
 use Rattle.meaning.specs.PathEquality.{first_path}
-use Rattle.meaning.specs.Category.{Category}
+use Rattle.meaning.specs.Category.{listed_category}
 use Rattle.meaning.specs.Sheet.{Judged, faulty, sound}
-use Rattle.meaning.specs.Formats.{Mapping, Instance, Kinds, max_rows, path_sheet, instance_sheet, matching_sheet, chain_sheet}
+use Rattle.meaning.specs.Formats.{Mapping, Instance, max_rows, path_sheet, instance_sheet, matching_sheet, chain_sheet}
 use Rattle.meaning.specs.Views.{mapping_of, instance_of}
-use Rattle.meaning.specs.Judge.{judge_path, judge_schema, judge_instance}
-use Rattle.meaning.specs.SchemaKinds.{SchemaKind, judge_mapping}
+use Rattle.meaning.specs.Judge.{judge_path, judge_schema, judge_mapping, judge_instance}
 use Rattle.meaning.specs.Delta.{delta}
 use Rattle.meaning.specs.Evenness.{even}
 use Rattle.meaning.specs.Sigma.{sigma}
@@ -50,33 +48,33 @@ ensure_fits J = do
 
 -- ---- checks
 
-abbrev pub check_schema : SchemaKind → List ℕ → Outcome (Unit {0})
-check_schema K s = do
-  S ← at 1 (K.judge_category s)
+abbrev pub check_schema : List ℕ → Outcome (Unit {0})
+check_schema s = do
+  S ← at 1 (judge_schema s)
   accepted tt
 
 -- S, T and a mapping between them
 pub record Migration : Type 0 where
-  pub S : Category
-  pub T : Category
+  pub S : Schema
+  pub T : Schema
   pub F : Mapping
 
-abbrev pub migration : SchemaKind → List ℕ → List ℕ → List ℕ → Outcome Migration
-migration K s t f = do
-  S ← at 1 (K.judge_category s)
-  T ← at 2 (K.judge_category t)
-  F ← at 3 (judge_mapping K S T f)
+abbrev pub migration : List ℕ → List ℕ → List ℕ → Outcome Migration
+migration s t f = do
+  S ← at 1 (judge_schema s)
+  T ← at 2 (judge_schema t)
+  F ← at 3 (judge_mapping (listed_category S) (listed_category T) f)
   accepted (record { S = S; T = T; F = F })
 
-abbrev pub check_mapping : SchemaKind → List ℕ → List ℕ → List ℕ → Outcome (Unit {0})
-check_mapping K s t f = do
-  m ← migration K s t f
+abbrev pub check_mapping : List ℕ → List ℕ → List ℕ → Outcome (Unit {0})
+check_mapping s t f = do
+  m ← migration s t f
   accepted tt
 
-abbrev pub check_instance : SchemaKind → Kinds → List ℕ → List ℕ → Outcome (Unit {0})
-check_instance K ks s i = do
-  S ← at 1 (K.judge_category s)
-  I ← at 2 (judge_instance ks S.schema i)
+abbrev pub check_instance : List ℕ → List ℕ → Outcome (Unit {0})
+check_instance s i = do
+  S ← at 1 (judge_schema s)
+  I ← at 2 (judge_instance S i)
   accepted tt
 
 -- ---- the path question: the first path of a path's class (document 02, C-14)
@@ -107,29 +105,29 @@ pub record Migrated : Type 0 where
   pub schema : Schema
   pub tables : Instance
 
-abbrev pub delta_tables : SchemaKind → Kinds → List ℕ → List ℕ → List ℕ → List ℕ → Outcome Migrated
-delta_tables K ks s t f j = do
-  m ← migration K s t f
-  J ← at 4 (judge_instance ks m.T.schema j)
-  D ← ensure_fits (delta m.S.schema m.F J)
-  accepted (record { schema = m.S.schema; tables = D })
+abbrev pub delta_tables : List ℕ → List ℕ → List ℕ → List ℕ → Outcome Migrated
+delta_tables s t f j = do
+  m ← migration s t f
+  J ← at 4 (judge_instance m.T j)
+  D ← ensure_fits (delta m.S m.F J)
+  accepted (record { schema = m.S; tables = D })
 
-abbrev pub sigma_tables : SchemaKind → Kinds → List ℕ → List ℕ → List ℕ → List ℕ → Outcome Migrated
-sigma_tables K ks s t f i = do
-  m ← migration K s t f
-  I ← at 4 (judge_instance ks m.S.schema i)
-  _ ← ensure (even m.S m.T m.F) 12
-  P ← ensure_fits (sigma m.S m.T m.F I)
-  accepted (record { schema = m.T.schema; tables = P })
+abbrev pub sigma_tables : List ℕ → List ℕ → List ℕ → List ℕ → Outcome Migrated
+sigma_tables s t f i = do
+  m ← migration s t f
+  I ← at 4 (judge_instance m.S i)
+  _ ← ensure (even (listed_category m.S) (listed_category m.T) m.F) 12
+  P ← ensure_fits (sigma (listed_category m.S) (listed_category m.T) m.F I)
+  accepted (record { schema = m.T; tables = P })
 
-abbrev pub pi_tables : SchemaKind → Kinds → List ℕ → List ℕ → List ℕ → List ℕ → Outcome Migrated
-pi_tables K ks s t f i = do
-  m ← migration K s t f
-  I ← at 4 (judge_instance ks m.S.schema i)
-  _ ← ensure (is_bijective m.T.schema m.F) 13
-  _ ← ensure (has_few_components m.S m.T m.F) 14
-  P ← ensure_fits (pi m.S m.T m.F I)
-  accepted (record { schema = m.T.schema; tables = P })
+abbrev pub pi_tables : List ℕ → List ℕ → List ℕ → List ℕ → Outcome Migrated
+pi_tables s t f i = do
+  m ← migration s t f
+  I ← at 4 (judge_instance m.S i)
+  _ ← ensure (is_bijective m.T m.F) 13
+  _ ← ensure (has_few_components (listed_category m.S) (listed_category m.T) m.F) 14
+  P ← ensure_fits (pi (listed_category m.S) (listed_category m.T) m.F I)
+  accepted (record { schema = m.T; tables = P })
 
 abbrev pub sheet_of : Outcome Migrated → Outcome (List ℕ)
 sheet_of o = do
@@ -146,51 +144,51 @@ pub record Sides : Type 0 where
   pub pushed : Instance
   pub pulled : Instance
 
-abbrev pub sides : SchemaKind → Kinds → List ℕ → List ℕ → List ℕ → List ℕ → List ℕ → Outcome Sides
-sides K ks s t f i j = do
-  m ← migration K s t f
-  I ← at 4 (judge_instance ks m.S.schema i)
-  J ← at 5 (judge_instance ks m.T.schema j)
-  _ ← ensure (even m.S m.T m.F) 12
-  P ← ensure_fits (sigma m.S m.T m.F I)
-  D ← ensure_fits (delta m.S.schema m.F J)
+abbrev pub sides : List ℕ → List ℕ → List ℕ → List ℕ → List ℕ → Outcome Sides
+sides s t f i j = do
+  m ← migration s t f
+  I ← at 4 (judge_instance m.S i)
+  J ← at 5 (judge_instance m.T j)
+  _ ← ensure (even (listed_category m.S) (listed_category m.T) m.F) 12
+  P ← ensure_fits (sigma (listed_category m.S) (listed_category m.T) m.F I)
+  D ← ensure_fits (delta m.S m.F J)
   accepted (record { m = m; run = I; book = J; pushed = P; pulled = D })
 
 -- the pushed side goes from Sigma's result to the book, the raw side from the run to Delta's result
 abbrev pub judge_pushed : Sides → List ℕ → Outcome (List ℕ)
-judge_pushed x k = at 6 (judge_matching x.m.T.schema x.pushed x.book k)
+judge_pushed x k = at 6 (judge_matching x.m.T x.pushed x.book k)
 
 abbrev pub judge_raw : Sides → List ℕ → Outcome (List ℕ)
-judge_raw x k = at 6 (judge_matching x.m.S.schema x.run x.pulled k)
+judge_raw x k = at 6 (judge_matching x.m.S x.run x.pulled k)
 
 -- the sheet of a turned list: keeping the book row
 abbrev pub raw_sheet : Sides → List ℕ → List ℕ
-raw_sheet x l = matching_sheet (to_raw (mapping_of x.m.S.schema x.m.T.schema x.m.F) (instance_of x.run) (instance_of x.pushed) l)
+raw_sheet x l = matching_sheet (to_raw (mapping_of x.m.S x.m.T x.m.F) (instance_of x.run) (instance_of x.pushed) l)
 
 abbrev pub pushed_sheet : Sides → List ℕ → List ℕ
-pushed_sheet x l = matching_sheet (to_pushed (mapping_of x.m.S.schema x.m.T.schema x.m.F) (instance_of x.run) (instance_of x.pushed) l)
+pushed_sheet x l = matching_sheet (to_pushed (mapping_of x.m.S x.m.T x.m.F) (instance_of x.run) (instance_of x.pushed) l)
 
-abbrev pub check_pushed : SchemaKind → Kinds → List ℕ → List ℕ → List ℕ → List ℕ → List ℕ → List ℕ → Outcome (Unit {0})
-check_pushed K ks s t f i j k = do
-  x ← sides K ks s t f i j
+abbrev pub check_pushed : List ℕ → List ℕ → List ℕ → List ℕ → List ℕ → List ℕ → Outcome (Unit {0})
+check_pushed s t f i j k = do
+  x ← sides s t f i j
   l ← judge_pushed x k
   accepted tt
 
-abbrev pub check_raw : SchemaKind → Kinds → List ℕ → List ℕ → List ℕ → List ℕ → List ℕ → List ℕ → Outcome (Unit {0})
-check_raw K ks s t f i j k = do
-  x ← sides K ks s t f i j
+abbrev pub check_raw : List ℕ → List ℕ → List ℕ → List ℕ → List ℕ → List ℕ → Outcome (Unit {0})
+check_raw s t f i j k = do
+  x ← sides s t f i j
   l ← judge_raw x k
   accepted tt
 
-abbrev pub pushed_to_raw : SchemaKind → Kinds → List ℕ → List ℕ → List ℕ → List ℕ → List ℕ → List ℕ → Outcome (List ℕ)
-pushed_to_raw K ks s t f i j k = do
-  x ← sides K ks s t f i j
+abbrev pub pushed_to_raw : List ℕ → List ℕ → List ℕ → List ℕ → List ℕ → List ℕ → Outcome (List ℕ)
+pushed_to_raw s t f i j k = do
+  x ← sides s t f i j
   l ← judge_pushed x k
   accepted (raw_sheet x l)
 
-abbrev pub raw_to_pushed : SchemaKind → Kinds → List ℕ → List ℕ → List ℕ → List ℕ → List ℕ → List ℕ → Outcome (List ℕ)
-raw_to_pushed K ks s t f i j k = do
-  x ← sides K ks s t f i j
+abbrev pub raw_to_pushed : List ℕ → List ℕ → List ℕ → List ℕ → List ℕ → List ℕ → Outcome (List ℕ)
+raw_to_pushed s t f i j k = do
+  x ← sides s t f i j
   l ← judge_raw x k
   accepted (pushed_sheet x l)
 

@@ -1,10 +1,10 @@
 -- The changes of a run, by which rows come and go and the pushed table is kept current (document 02, C-16): what each call yields, and both trays after it.
 use Rattle.std.specs.Prelude.{ℕ, cond, not, ◌&&◌, List, ◌++◌, length, take, drop, leb, ltb}
 use Rattle.meaning.specs.Schema.{Schema}
-use Rattle.meaning.specs.Formats.{Instance, Kinds, kinds, instance_sheet}
+use Rattle.meaning.specs.Category.{listed_category}
+use Rattle.meaning.specs.Formats.{Instance, instance_sheet}
 use Rattle.meaning.specs.Views.{count}
 use Rattle.meaning.specs.Judge.{judge_instance}
-use Rattle.meaning.specs.SchemaKinds.{listed}
 use Rattle.meaning.specs.Evenness.{even}
 use Rattle.meaning.specs.Sigma.{sigma}
 use Rattle.meaning.specs.Calls.{Outcome, refused, accepted, ◌>>=◌, at, ensure, ensure_fits, Migration, migration}
@@ -17,16 +17,16 @@ pub record Run : Type 0 where
   pub m : Migration
   pub tables : Instance
 
--- the run's sheet, after those of S, T and the mapping, and 12; so far as Sigma begins too, by any list of kinds
-abbrev pub even_run : Kinds → Outcome Migration → List ℕ → Outcome Run
-even_run ks M i = do
+-- the run's sheet, after those of S, T and the mapping, and 12
+abbrev pub even_run : Outcome Migration → List ℕ → Outcome Run
+even_run M i = do
   m ← M
-  I ← at 4 (judge_instance ks m.S.schema i)
-  _ ← ensure (even m.S m.T m.F) 12
+  I ← at 4 (judge_instance m.S i)
+  _ ← ensure (even (listed_category m.S) (listed_category m.T) m.F) 12
   accepted (record { m = m; tables = I })
 
 abbrev pub judge_run : List ℕ → List ℕ → List ℕ → List ℕ → Outcome Run
-judge_run s t f i = even_run kinds (migration listed s t f) i
+judge_run s t f i = even_run (migration s t f) i
 
 -- the run after an addition: 18 (absent), then 1, 2, 9, 10 and 11 of the row, then 15 where the run would pass 512 rows
 abbrev pub addition : Schema → Instance → ℕ → List ℕ → Outcome Instance
@@ -49,18 +49,18 @@ pub record Sheets : Type 0 where
 
 -- after each accepted change the pushed sheet is a fresh Sigma of the changed run
 abbrev pub sheets_of : Run → Instance → Sheets
-sheets_of x J = record { run = instance_sheet J; pushed = instance_sheet (sigma x.m.S x.m.T x.m.F J) }
+sheets_of x J = record { run = instance_sheet J; pushed = instance_sheet (sigma (listed_category x.m.S) (listed_category x.m.T) x.m.F J) }
 
 abbrev pub addition_sheets : (s t f i : List ℕ) (c : ℕ) (row : List ℕ) → Outcome Sheets
 addition_sheets s t f i c row = do
   x ← judge_run s t f i
-  J ← addition x.m.S.schema x.tables c row
+  J ← addition x.m.S x.tables c row
   accepted (sheets_of x J)
 
 abbrev pub withdrawal_sheets : (s t f i : List ℕ) (c r : ℕ) → Outcome Sheets
 withdrawal_sheets s t f i c r = do
   x ← judge_run s t f i
-  J ← withdrawal x.m.S.schema x.tables c r
+  J ← withdrawal x.m.S x.tables c r
   accepted (sheets_of x J)
 
 -- ---- both sheets in their trays: their byte lengths, or 16 where either does not fit; bytes beyond them keep their values, and a refusal changes none

@@ -3,10 +3,10 @@ use Rattle.std.specs.Prelude.{ℕ, List, [], ◌∷◌, map, length}
 use Rattle.theory.specs.Mapping as theory_mapping
 use Rattle.meaning.specs.Lists.{upto}
 use Rattle.meaning.specs.Schema.{Schema}
-use Rattle.meaning.specs.Category.{Category}
+use Rattle.meaning.specs.Category.{listed_category}
 use Rattle.meaning.specs.Formats.{Mapping, mapping_sheet}
 use Rattle.meaning.specs.Views.{node_image, edge_image, attribute_image}
-use Rattle.meaning.specs.SchemaKinds.{judge_mapping, listed}
+use Rattle.meaning.specs.Judge.{judge_schema, judge_mapping}
 use Rattle.meaning.specs.Calls.{Outcome, accepted, ◌>>=◌, at}
 
 -- each node and attribute goes to its image's image, "each edge going to its image path's images joined": as they are, no first path of a class is chosen
@@ -23,20 +23,20 @@ identity S = record { nodes = upto S.graph.nodes; edges = map (λ e. e ∷ []) (
 
 -- three schemas, F from the first to the second and G from the second to the third
 pub record Composable : Type 0 where
-  pub S : Category
-  pub T : Category
-  pub U : Category
+  pub S : Schema
+  pub T : Schema
+  pub U : Schema
   pub F : Mapping
   pub G : Mapping
 
 -- "The composing call is lent S, T, U, F, G, judged in that order"
 abbrev pub judge_composable : (s t u f g : List ℕ) → Outcome Composable
 judge_composable s t u f g = do
-  S ← at 1 (listed.judge_category s)
-  T ← at 2 (listed.judge_category t)
-  U ← at 3 (listed.judge_category u)
-  F ← at 4 (judge_mapping listed S T f)
-  G ← at 5 (judge_mapping listed T U g)
+  S ← at 1 (judge_schema s)
+  T ← at 2 (judge_schema t)
+  U ← at 3 (judge_schema u)
+  F ← at 4 (judge_mapping (listed_category S) (listed_category T) f)
+  G ← at 5 (judge_mapping (listed_category T) (listed_category U) g)
   accepted (record { S = S; T = T; U = U; F = F; G = G })
 
 -- the mapping sheet from S to U

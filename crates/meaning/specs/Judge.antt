@@ -5,7 +5,7 @@ use Rattle.meaning.specs.Lists.{upto, all}
 use Rattle.meaning.specs.Schema.{Edge, Attribute, Path, Equation, Graph, Schema, source, target, attribute_at, end, joins, is_path, all_paths, has_loop}
 use Rattle.meaning.specs.Category.{Category, equal}
 use Rattle.meaning.specs.Sheet.{Judged, faulty, sound, on_sheet}
-use Rattle.meaning.specs.Formats.{Mapping, Instance, read_path_sheet, read_schema, read_instance, read_kinds, max_paths, Range, range_of, Kinds, in_range}
+use Rattle.meaning.specs.Formats.{Mapping, Instance, read_path_sheet, read_schema, read_mapping, read_instance, max_paths, Kinds, kinds, in_range}
 use Rattle.meaning.specs.Views.{node_image, edge_image, attribute_image, path_image, count, rows, column, follow}
 
 infixl 20 ◌>>=◌
@@ -92,6 +92,11 @@ test_mapping S T F = do
   _ ← ensure (keeps_equations S T F) 8
   sound F
 
+abbrev pub judge_mapping : Category → Category → List ℕ → Judged Mapping
+judge_mapping S T s = do
+  F ← on_sheet (read_mapping S.schema) s
+  test_mapping S T F
+
 -- ---- instance of S: 9, 10, 11
 
 -- 9 (dangling): a target row is below its table's count
@@ -106,32 +111,14 @@ values_in_range ks S I = all (λ a. all (in_range ks (attribute_at S a).kind) (c
 abbrev pub obeys_equations : Schema → Instance → Bool
 obeys_equations S I = all (λ q. all (λ r. eqb (follow I q.left.edges r) (follow I q.right.edges r)) (rows I q.left.start)) S.equations
 
-abbrev pub test_instance : Kinds → Schema → Instance → Judged Instance
-test_instance ks S I = do
+abbrev pub test_instance : Schema → Instance → Judged Instance
+test_instance S I = do
   _ ← ensure (links_in_range S I) 9
-  _ ← ensure (values_in_range ks S I) 10
+  _ ← ensure (values_in_range kinds S I) 10
   _ ← ensure (obeys_equations S I) 11
   sound I
 
-abbrev pub judge_instance : Kinds → Schema → List ℕ → Judged Instance
-judge_instance ks S s = do
+abbrev pub judge_instance : Schema → List ℕ → Judged Instance
+judge_instance S s = do
   I ← on_sheet (read_instance S) s
-  test_instance ks S I
-
--- ---- kinds (document 02, C-18): 20
-
-abbrev pub in_order : Range → Bool
-in_order r = leb r.smallest r.largest
-
-abbrev pub is_zero : Range → Bool
-is_zero r = eqb r.smallest 0 && eqb r.largest 0
-
--- 20 (bad kinds): no smallest is above its largest, and kind 15 is 0 to 0
-abbrev pub kinds_fit : Kinds → Bool
-kinds_fit ks = all in_order ks && is_zero (range_of ks 15)
-
-abbrev pub judge_kinds : List ℕ → Judged Kinds
-judge_kinds s = do
-  ks ← on_sheet read_kinds s
-  _ ← ensure (kinds_fit ks) 20
-  sound ks
+  test_instance S I

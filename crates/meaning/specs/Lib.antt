@@ -8,14 +8,12 @@ pub mod Sheet
 pub mod Formats
 pub mod Views
 pub mod Judge
-pub mod SchemaKinds
 pub mod Delta
 pub mod Evenness
 pub mod Sigma
 pub mod Pi
 pub mod Matching
 pub mod Calls
-pub mod OwnKinds
 pub mod Query
 pub mod Rows
 pub mod Changes

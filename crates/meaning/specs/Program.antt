@@ -4,10 +4,9 @@ use Prim.Native.Char.{code}
 use Prim.Native.String.{String, [] as no_text, ◌∷◌ as ◌before◌}
 use Rattle.meaning.specs.Lists.{upto, concat_map, sum_of}
 use Rattle.meaning.specs.Schema.{Schema, leaving}
-use Rattle.meaning.specs.Formats.{Instance, kinds}
+use Rattle.meaning.specs.Formats.{Instance}
 use Rattle.meaning.specs.Views.{rows, link, value}
 use Rattle.meaning.specs.Evenness.{attributes_at}
-use Rattle.meaning.specs.SchemaKinds.{listed}
 use Rattle.meaning.specs.Calls.{Outcome, refused, accepted, Migrated, sigma_tables}
 use Rattle.meaning.specs.Query.{query_tables}
 
@@ -98,7 +97,7 @@ shown (accepted m) = printed m
 
 -- the sheets S, T, mapping and run; bytes after the fourth sheet are not read
 abbrev pub push : List ℕ → List ℕ
-push input = shown (sigma_tables listed kinds (sheet 0 input) (sheet 1 input) (sheet 2 input) (sheet 3 input))
+push input = shown (sigma_tables (sheet 0 input) (sheet 1 input) (sheet 2 input) (sheet 3 input))
 
 -- the four schemas, F, G, H and the run, as push reads its sheets, and in that program's lines
 abbrev pub dig : List ℕ → List ℕ

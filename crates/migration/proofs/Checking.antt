@@ -1,40 +1,33 @@
 -- What judged sheets say together: the meanings of the checks and of the calls on paths.
 use Prim.Native.Nat.{ℕ}
-use mathlib.Core.Path.{◌≡◌, ap, ◌∙◌}
+use mathlib.Core.Path.{◌≡◌}
 use mathlib.Core.List.{List}
 use Rattle.meaning.specs.Schema as meaning
 use Rattle.meaning.specs.Judge.{judge_schema, judge_path, judge_instance}
-use Rattle.meaning.specs.Formats.{Kinds, kinds}
-use Rattle.meaning.specs.SchemaKinds.{listed}
 use Rattle.meaning.specs.Calls.{accepted, ◌>>=◌, at, check_schema, check_instance}
 use Rattle.schema.specs.declared.Schema.{Schema}
 use Rattle.schema.specs.declared.JudgedPath.{JudgedPath}
-use Rattle.schema.specs.Decoded.{graph_of, path_of, schema_of, category_of, judged_schema}
+use Rattle.schema.specs.Decoded.{graph_of, path_of, schema_of, judged_schema}
 use Rattle.schema.specs.Judged.{SoundPath, PathSays}
 use Rattle.instance.specs.declared.Instance.{Instance}
 use Rattle.instance.specs.Decoded.{tables_of, judged_instance}
 use Rattle.steps.specs.declared.Refusal.{Refusal}
 use Rattle.migration.specs.Answers.{checked_sheet}
 use Rattle.steps.specs.Answers.{or_next, first_refusal, outcome_of}
-use Rattle.steps.proofs.Opening.{category-judged}
 use Rattle.steps.proofs.Refusing.{refusal, judged-at, then, yields, or_assoc, none_first, none-next}
 
-pub sheet-checked : {ks : Kinds} → ks ≡ kinds → (t : Schema) (i : Instance) (links values e : List ℕ) → judged_instance t i links values ≡ judge_instance ks (schema_of t) e → outcome_of (refusal i.fault 2) tt ≡ checked_sheet (schema_of t) e
-sheet-checked k t i links values e I =
-    yields (refusal i.fault 2) (tables_of t i links values) (judged-at i.fault 2 (tables_of t i links values) (I ∙ ap (λ (ks : Kinds). judge_instance ks (schema_of t) e) k)) (λ _. tt)
+pub sheet-checked : (t : Schema) (i : Instance) (links values e : List ℕ) → judged_instance t i links values ≡ judge_instance (schema_of t) e → outcome_of (refusal i.fault 2) tt ≡ checked_sheet (schema_of t) e
+sheet-checked t i links values e I = yields (refusal i.fault 2) (tables_of t i links values) (judged-at i.fault 2 (tables_of t i links values) I) (λ _. tt)
 
 module _ (t : Schema) (s : List ℕ) (S : judged_schema t ≡ judge_schema s) where
   schema-at : outcome_of (refusal t.fault 1) (schema_of t) ≡ at 1 (judge_schema s)
   schema-at = judged-at t.fault 1 (schema_of t) S
 
-  category-at : outcome_of (refusal t.fault 1) (category_of t) ≡ at 1 (listed.judge_category s)
-  category-at = judged-at t.fault 1 (category_of t) (category-judged t s S)
+  pub schema-checked : outcome_of (refusal t.fault 1) tt ≡ check_schema s
+  schema-checked = yields (refusal t.fault 1) (schema_of t) schema-at (λ _. tt)
 
-  pub schema-checked : outcome_of (refusal t.fault 1) tt ≡ check_schema listed s
-  schema-checked = yields (refusal t.fault 1) (category_of t) category-at (λ _. tt)
-
-  pub instance-checked : (r : Refusal) (e : List ℕ) → outcome_of r tt ≡ checked_sheet (schema_of t) e → outcome_of (or_next (refusal t.fault 1) r) tt ≡ check_instance listed kinds s e
-  instance-checked r e h = then (refusal t.fault 1) (category_of t) category-at r tt (λ S. checked_sheet S.schema e) h
+  pub instance-checked : (r : Refusal) (e : List ℕ) → outcome_of r tt ≡ checked_sheet (schema_of t) e → outcome_of (or_next (refusal t.fault 1) r) tt ≡ check_instance s e
+  instance-checked r e h = then (refusal t.fault 1) (schema_of t) schema-at r tt (λ S. checked_sheet S e) h
 
   -- a schema and one of its paths, and what is made of them
   module _ (a : JudgedPath) (p : List ℕ) (P : PathSays (graph_of t.graph) a (judge_path (graph_of t.graph) p)) where

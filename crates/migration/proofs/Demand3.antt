@@ -3,19 +3,14 @@ use Prim.Native.Nat.{ℕ}
 use mathlib.Core.Path.{◌≡◌, refl, sym, subst}
 use mathlib.Core.List.{List}
 use Rattle.meaning.specs.Calls.{Outcome, refused, accepted, check_pushed, check_raw, pushed_to_raw, raw_to_pushed, Lent, in_tray}
-use Rattle.meaning.specs.Sheet.{sound}
-use Rattle.meaning.specs.Formats.{Kinds}
-use Rattle.meaning.specs.SchemaKinds.{listed}
-use Rattle.meaning.specs.OwnKinds.{Form, form_kinds, check_pushed_in, check_raw_in, pushed_to_raw_in, raw_to_pushed_in}
 use Rattle.agreement.specs.Demand3.{meaning_answers, Provided, Clauses, AllRefuse}
-use Rattle.agreement.proofs.Categories.{listed_kind}
 use Rattle.agreement.proofs.Demand3.{demand3, unprovided-refused}
 use Rattle.migration.specs.Answers.{verdict_of}
 use Rattle.steps.specs.Answers.{written_of, lent_of}
 use Rattle.migration.specs.Demand3.{Calls, MeetsContracts, answers, as_verdict, as_written, as_turned, meaning_calls}
 
-module _ {form : Form} {c : Calls} (C : MeetsContracts form c) where
-  same-answers : (s t f i j : List ℕ) → meaning_answers listed form s t f i j ≡ answers c s t f i j
+module _ {c : Calls} (C : MeetsContracts c) where
+  same-answers : (s t f i j : List ℕ) → meaning_answers s t f i j ≡ answers c s t f i j
   same-answers s t f i j = sym (λ n. record {
     check-pushed = λ k. C.check-pushed s t f i j k n;
     check-raw = λ k. C.check-raw s t f i j k n;
@@ -23,11 +18,11 @@ module _ {form : Form} {c : Calls} (C : MeetsContracts form c) where
     to-pushed = λ tray k. C.raw-to-pushed s t f i j k tray n;
   })
 
-  pub calls-demand3 : {ks : Kinds} → form_kinds form ≡ sound ks → {s t f i j : List ℕ} (x : Provided listed ks s t f i j) → Clauses x (answers c s t f i j)
-  calls-demand3 e {s} {t} {f} {i} {j} x = subst (Clauses x) (same-answers s t f i j) (demand3 listed_kind x form e)
+  pub calls-demand3 : {s t f i j : List ℕ} (x : Provided s t f i j) → Clauses x (answers c s t f i j)
+  calls-demand3 {s} {t} {f} {i} {j} x = subst (Clauses x) (same-answers s t f i j) (demand3 x)
 
-  pub calls_refuse : (s t f i j : List ℕ) → ((ks : Kinds) → form_kinds form ≡ sound ks → Provided listed ks s t f i j → ⊥) → AllRefuse (answers c s t f i j)
-  calls_refuse s t f i j none = subst AllRefuse (same-answers s t f i j) (unprovided-refused listed_kind s t f i j form none)
+  pub calls_refuse : (s t f i j : List ℕ) → (Provided s t f i j → ⊥) → AllRefuse (answers c s t f i j)
+  calls_refuse s t f i j none = subst AllRefuse (same-answers s t f i j) (unprovided-refused s t f i j none)
 
 -- ---- the meanings meet the contracts
 
@@ -42,10 +37,10 @@ turned-again l = λ n. record { answer = written-again l.answer n; tray = l.tray
     written-again (accepted n) = refl
     written-again (refused n place) = refl
 
-pub meanings_meet : (form : Form) → MeetsContracts form (meaning_calls form)
-meanings_meet form = record {
-  check-pushed = λ s t f i j k. verdict-again (check_pushed_in listed form s t f i j k);
-  check-raw = λ s t f i j k. verdict-again (check_raw_in listed form s t f i j k);
-  pushed-to-raw = λ s t f i j k tray. turned-again (in_tray tray (pushed_to_raw_in listed form s t f i j k));
-  raw-to-pushed = λ s t f i j k tray. turned-again (in_tray tray (raw_to_pushed_in listed form s t f i j k));
+pub meanings_meet : MeetsContracts meaning_calls
+meanings_meet = record {
+  check-pushed = λ s t f i j k. verdict-again (check_pushed s t f i j k);
+  check-raw = λ s t f i j k. verdict-again (check_raw s t f i j k);
+  pushed-to-raw = λ s t f i j k tray. turned-again (in_tray tray (pushed_to_raw s t f i j k));
+  raw-to-pushed = λ s t f i j k tray. turned-again (in_tray tray (raw_to_pushed s t f i j k));
 }

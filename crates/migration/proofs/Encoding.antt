@@ -2,7 +2,7 @@
 use Prim.Native.Nat.{ℕ, ◌+◌, ◌*◌, ◌/◌, ◌%◌, ◌<◌, ◌≤◌}
 use mathlib.Core.Path.{◌≡◌, refl, sym, ap, ◌∙◌, Σ_path}
 use mathlib.Core.Bool.{Bool, true, ◌&&◌}
-use mathlib.Core.List.{List, [], ◌∷◌, ◌++◌, map}
+use mathlib.Core.List.{List, []}
 use native.Mathlib.Omega.{arith}
 use native.Mathlib.Decide.{dec_lt}
 use lib.ListN.{length, take}
@@ -13,12 +13,10 @@ use Rattle.theory.specs.Transposition.{raw, pushed}
 use Rattle.theory.proofs.Matching.{partners-length}
 use Rattle.meaning.specs.Lists.{all}
 use Rattle.meaning.specs.Schema.{Path, Schema}
-use Rattle.meaning.specs.Formats.{Instance, Kinds, kinds, max_instance_bytes, max_mapping_bytes, instance_sheet, matching_sheet}
+use Rattle.meaning.specs.Formats.{Instance, max_instance_bytes, max_mapping_bytes, matching_sheet}
 use Rattle.meaning.specs.Views.{schema_of, mapping_of, instance_of}
 use Rattle.meaning.specs.Judge.{judge_path, judge_schema}
-use Rattle.meaning.specs.Calls.{Outcome, refused, accepted, ◌>>=◌, path_question, path_chain, Migrated, delta_tables, sigma_tables, pi_tables, sheet_of, Sides, sides, judge_pushed, judge_raw, pushed_to_raw, raw_to_pushed, in_tray, raw_sheet, pushed_sheet}
-use Rattle.meaning.specs.SchemaKinds.{listed}
-use Rattle.meaning.specs.OwnKinds.{Form, builtIn, own, in_form, delta_in, sigma_in, pi_in, pushed_to_raw_in, raw_to_pushed_in}
+use Rattle.meaning.specs.Calls.{Outcome, refused, accepted, ◌>>=◌, path_question, path_chain, delta_tables, sigma_tables, pi_tables, sheet_of, Sides, sides, judge_pushed, judge_raw, pushed_to_raw, raw_to_pushed, in_tray, raw_sheet, pushed_sheet}
 use Rattle.meaning.specs.Query.{query_tables}
 use Rattle.meaning.specs.Changes.{Sheets, addition_sheets, withdrawal_sheets, in_trays}
 use Rattle.meaning.specs.Composition.{compose}
@@ -29,16 +27,11 @@ use Rattle.meaning.proofs.Written.{path-sheet-length, matching-sheet-length, cha
 use Rattle.agreement.specs.Paths.{EqualPaths}
 use Rattle.agreement.specs.PathChains.{ChainAnswers}
 use Rattle.agreement.specs.Tests.{Refusal, Tests, Decides}
-use Rattle.agreement.specs.SheetTests.{listed_tests}
-use Rattle.agreement.specs.CallTests.{delta_refusals, sigma_refusals, pi_refusals, matching_refusals, moved_refusal, form_refusals}
-use Rattle.agreement.specs.OwnKinds.{WellFormedKinds}
 use Rattle.agreement.specs.Changes.{ChangeAgrees}
 use Rattle.agreement.proofs.Tests.{accepted-same, decides-giving, refused-in}
 use Rattle.agreement.proofs.Paths.{path-short}
-use Rattle.agreement.proofs.Categories.{schema-well-formed, listed_kind}
-use Rattle.agreement.proofs.Refusals.{listed-tests}
-use Rattle.agreement.proofs.OwnKinds.{form-accepted, form-kinds}
-use Rattle.agreement.proofs.Outcomes.{check_schema-decided, check_mapping-decided, check_instance-decided, check_pushed-answer, check_raw-answer, path_question-answer, path_chain-answer, delta-answer, sigma-answer, pi-answer, query-answer, pushed_to_raw-answer, raw_to_pushed-answer, accepted-tray}
+use Rattle.agreement.proofs.Categories.{schema-well-formed}
+use Rattle.agreement.proofs.Outcomes.{check_schema-decided, check_mapping-decided, check_instance-decided, check_pushed-decided, check_raw-decided, path_question-answer, path_chain-answer, delta-answer, sigma-answer, pi-answer, query-answer, pushed_to_raw-answer, raw_to_pushed-answer, accepted-tray}
 use Rattle.agreement.proofs.Accepted.{bind-accepted, sheet-accepted, SidesSound, sides-accepted}
 use Rattle.agreement.proofs.AcceptedSheets.{path_answer, chain_answers}
 use Rattle.agreement.proofs.Tables.{rows-sum}
@@ -56,49 +49,40 @@ use Rattle.migration.specs.Encoding.{Says, SaysLengths, ExportsSay, max_path_byt
 
 -- ---- byte lengths
 
-partners-within : {ks : Kinds} {S : Schema} {A : Instance} → ValidInstance ks S A → (m : ℕ → ℕ → ℕ) → length (matching_sheet (partners (schema_of S) (instance_of A) m)) ≤ max_matching_bytes
-partners-within {S = S} {A} v m =
+partners-within : {S : Schema} {A : Instance} → ValidInstance S A → (m : ℕ → ℕ → ℕ) → length (matching_sheet (partners (schema_of S) (instance_of A) m)) ≤ max_matching_bytes
+partners-within {S} {A} v m =
     let l = partners (schema_of S) (instance_of A) m in
     bound (length l) (length (matching_sheet l)) (matching-sheet-length l) (omega (arith, partners-length (schema_of S) (instance_of A) m, rows-sum S A v.shaped.tables, v.few_rows))
   where
     bound : (n b : ℕ) → b ≡ (9 * n + 7) / 8 → n ≤ 512 → b ≤ 576
     bound n b e h = omega arith
 
-run-valid : {ks : Kinds} {s t f i j : List ℕ} {x : Sides} → SidesSound listed ks s t f i j x → ValidInstance ks x.m.S.schema x.run
-run-valid {ks} {i = i} {x = x} h = instance-valid ks x.m.S.schema i h.run_sound
+run-valid : {s t f i j : List ℕ} {x : Sides} → SidesSound s t f i j x → ValidInstance x.m.S x.run
+run-valid {i = i} {x = x} h = instance-valid x.m.S i h.run_sound
 
-pushed-valid : {ks : Kinds} {s t f i j : List ℕ} {x : Sides} → SidesSound listed ks s t f i j x → ValidInstance ks x.m.T.schema x.pushed
-pushed-valid {s = s} {t} {f} h =
+pushed-valid : {s t f i j : List ℕ} {x : Sides} → SidesSound s t f i j x → ValidInstance x.m.T x.pushed
+pushed-valid {s} {t} {f} h =
     let a = h.migration_sound in
-    let v = mapping-valid listed_kind s t f a.s_sound a.t_sound a.f_sound in
+    let v = mapping-valid s t f a.s_sound a.t_sound a.f_sound in
     rw h.pushed_is (sigma-valid v ((even-iff v).0 h.is-even) (run-valid h))
 
 -- the turned lists' sheets
-module _ {ks : Kinds} {s t f i j : List ℕ} {x : Sides} (h : SidesSound listed ks s t f i j x) (l : List ℕ) where
+module _ {s t f i j : List ℕ} {x : Sides} (h : SidesSound s t f i j x) (l : List ℕ) where
   raw-within : length (raw_sheet x l) ≤ max_matching_bytes
-  raw-within = partners-within (run-valid h) (raw (mapping_of x.m.S.schema x.m.T.schema x.m.F) (instance_of x.run) (partner (instance_of x.pushed) l))
+  raw-within = partners-within (run-valid h) (raw (mapping_of x.m.S x.m.T x.m.F) (instance_of x.run) (partner (instance_of x.pushed) l))
 
   pushed-within : length (pushed_sheet x l) ≤ max_matching_bytes
-  pushed-within = partners-within (pushed-valid h) (pushed (mapping_of x.m.S.schema x.m.T.schema x.m.F) (instance_of x.run) (partner (instance_of x.run) l))
+  pushed-within = partners-within (pushed-valid h) (pushed (mapping_of x.m.S x.m.T x.m.F) (instance_of x.run) (partner (instance_of x.run) l))
 
--- in a form, what every list of kinds gives
-form-within : (form : Form) (n : ℕ) (call : Kinds → Outcome (List ℕ)) → ((ks : Kinds) → WellFormedKinds ks → Within n (call ks)) → Within n (in_form form call)
-form-within form n call h bytes e = let r = form-accepted form call e in h r.0 (form-kinds form r.1) bytes r.2
-
-module _ (form : Form) (s t f i j : List ℕ) where
+module _ (s t f i j : List ℕ) where
   turned-within : (list : Sides → Outcome (List ℕ)) (sheet : Sides → List ℕ → List ℕ)
-      → ((ks : Kinds) (x : Sides) → SidesSound listed ks s t f i j x → (l : List ℕ) → length (sheet x l) ≤ max_matching_bytes)
-      → Within max_matching_bytes (in_form form (λ ks. sides listed ks s t f i j >>= λ x. list x >>= λ l. accepted (sheet x l)))
-  turned-within list sheet h = form-within form max_matching_bytes (λ ks. sides listed ks s t f i j >>= λ x. list x >>= λ l. accepted (sheet x l)) (λ ks w bytes e.
-      let a = bind-accepted (sides listed ks s t f i j) (λ x. list x >>= λ l. accepted (sheet x l)) e in
+      → ((x : Sides) → SidesSound s t f i j x → (l : List ℕ) → length (sheet x l) ≤ max_matching_bytes)
+      → Within max_matching_bytes (sides s t f i j >>= λ x. list x >>= λ l. accepted (sheet x l))
+  turned-within list sheet h bytes e =
+      let a = bind-accepted (sides s t f i j) (λ x. list x >>= λ l. accepted (sheet x l)) e in
       let b = bind-accepted (list a.0) (λ l. accepted (sheet a.0 l)) a.2 in
       let k : sheet a.0 b.0 ≡ bytes = accepted-same b.2 in
-      rw k at (h ks a.0 (sides-accepted listed ks s t f i j a.1) b.0))
-
--- the sheet of migrated tables that are lendable
-module _ (form : Form) (call : Kinds → Outcome Migrated) where
-  tables-within : ((ks : Kinds) → WellFormedKinds ks → (M : Migrated) → call ks ≡ accepted M → length (instance_sheet M.tables) ≤ max_instance_bytes) → Within max_instance_bytes (sheet_of (in_form form call))
-  tables-within h = sheet-within (in_form form call) max_instance_bytes (λ M e. let r = form-accepted form call e in h r.0 (form-kinds form r.1) M r.2)
+      rw k at (h a.0 (sides-accepted s t f i j a.1) b.0)
 
 -- the sheet of a path
 path-within : (s p : List ℕ) → Within max_path_bytes (path_question s p)
@@ -138,37 +122,31 @@ chain-within s p q bytes e =
     let c = sheet-accepted 3 (judge_path a.0.graph q) _ b.2 in
     answer-within (chain_answers s p q a.1 b.1 c.1) bytes e
 
-sigma-within : (form : Form) (s t f i : List ℕ) → Within max_instance_bytes (sheet_of (sigma_in listed form s t f i))
-sigma-within form s t f i = tables-within form (λ ks. sigma_tables listed ks s t f i) (λ ks w M e.
-    let a = sigma_agrees listed_kind w s t f i e in
-    lendable-within t a.inputs.t_accepted a.lendable)
+sigma-within : (s t f i : List ℕ) → Within max_instance_bytes (sheet_of (sigma_tables s t f i))
+sigma-within s t f i = sheet-within (sigma_tables s t f i) max_instance_bytes (λ M e. let a = sigma_agrees s t f i e in lendable-within t a.inputs.t_accepted a.lendable)
 
 -- both sheets of a changed run
 change-within : {s t f i : List ℕ} {w : Sheets} → ChangeAgrees s t f i w → (length w.run ≤ max_instance_bytes) × (length w.pushed ≤ max_instance_bytes)
 change-within {s} {t} {f} {w = w} x = (
   rw x.run_sheet (lendable-within s x.inputs.s_accepted x.lendable),
-  sigma-within builtIn s t f w.run w.pushed (ap sheet_of x.pushed_by_call ∙ ap accepted (sym x.pushed-sheet)),
+  sigma-within s t f w.run w.pushed (ap sheet_of x.pushed_by_call ∙ ap accepted (sym x.pushed-sheet)),
 )
 
 pub results_within : ResultsWithin
 results_within = record {
   first-path = path-within;
   path-chain = chain-within;
-  delta = λ form s t f j. tables-within form (λ ks. delta_tables listed ks s t f j) (λ ks w M e.
-      let a = delta_agrees listed_kind w s t f j e in
-      lendable-within s a.inputs.s_accepted a.lendable);
+  delta = λ s t f j. sheet-within (delta_tables s t f j) max_instance_bytes (λ M e. let a = delta_agrees s t f j e in lendable-within s a.inputs.s_accepted a.lendable);
   sigma = sigma-within;
-  pi = λ form s t f i. tables-within form (λ ks. pi_tables listed ks s t f i) (λ ks w M e.
-      let a = pi_agrees listed_kind w s t f i e in
-      lendable-within t a.inputs.t_accepted a.lendable);
+  pi = λ s t f i. sheet-within (pi_tables s t f i) max_instance_bytes (λ M e. let a = pi_agrees s t f i e in lendable-within t a.inputs.t_accepted a.lendable);
   query = λ s1 s2 s3 s4 f g h i. sheet-within (query_tables s1 s2 s3 s4 f g h i) max_instance_bytes (λ M e.
       let a = query_agrees s1 s2 s3 s4 f g h i e in
       lendable-within s4 a.inputs.s4_accepted a.lendable);
   row_added = λ s t f i c row w e. change-within (row_added s t f i c row e).0;
   row_withdrawn = λ s t f i c r w e. change-within (row_withdrawn s t f i c r e).0;
   compose = compose-within;
-  pushed-to-raw = λ form s t f i j k. turned-within form s t f i j (λ x. judge_pushed x k) raw_sheet (λ ks x h l. raw-within h l);
-  raw-to-pushed = λ form s t f i j k. turned-within form s t f i j (λ x. judge_raw x k) pushed_sheet (λ ks x h l. pushed-within h l);
+  pushed-to-raw = λ s t f i j k. turned-within s t f i j (λ x. judge_pushed x k) raw_sheet (λ x h l. raw-within h l);
+  raw-to-pushed = λ s t f i j k. turned-within s t f i j (λ x. judge_raw x k) pushed_sheet (λ x h l. pushed-within h l);
 }
 
 -- ---- answers
@@ -228,36 +206,22 @@ module _ {rs : List Refusal} {t : Tests (ℕ × ℕ) rs} (run pushed : List ℕ)
       let b = w r.sheets r.result in
       (omega (arith, b.0, r.run_size), omega (arith, b.1, r.pushed_size)))
 
--- the refusals of a form, and those after them
-lows : (form : Form) (rs ts : List Refusal) → all low (rs ++ ts) ≡ true → all low (map moved_refusal rs ++ ts) ≡ true → all low (form_refusals form rs ++ ts) ≡ true
-lows builtIn rs ts a b = a
-lows (own k) rs ts a b = b
-
-form-low : (form : Form) (rs : List Refusal) → all low rs ≡ true → all low (map moved_refusal rs) ≡ true → all low (form_refusals form rs) ≡ true
-form-low builtIn rs a b = a
-form-low (own k) rs a b = b
-
 pub exports_say : ExportsSay
 exports_say = record {
-  check-schema = λ s. says-check (check_schema-decided listed-tests s) refl;
-  check-mapping = λ s t f. says-check (check_mapping-decided listed-tests s t f) refl;
-  check-instance = λ s i. says-check (check_instance-decided listed-tests kinds s i) refl;
+  check-schema = λ s. says-check (check_schema-decided s) refl;
+  check-mapping = λ s t f. says-check (check_mapping-decided s t f) refl;
+  check-instance = λ s i. says-check (check_instance-decided s i) refl;
   first-path = λ s p tray. says-bytes tray (path_question s p) max_path_bytes (path_question-answer tray s p) refl (results_within.first-path s p) (omega arith);
   path-chain = λ s p q tray. says-bytes tray (path_chain s p q) max_chain_bytes (path_chain-answer tray s p q) refl (results_within.path-chain s p q) (omega arith);
-  delta = λ form s t f j tray. says-bytes tray (sheet_of (delta_in listed form s t f j)) max_instance_bytes (delta-answer listed-tests form s t f j tray)
-      (lows form (delta_refusals listed_tests) ((16, 0) ∷ []) refl refl) (results_within.delta form s t f j) (omega arith);
-  sigma = λ form s t f i tray. says-bytes tray (sheet_of (sigma_in listed form s t f i)) max_instance_bytes (sigma-answer listed-tests form s t f i tray)
-      (lows form (sigma_refusals listed_tests) ((16, 0) ∷ []) refl refl) (results_within.sigma form s t f i) (omega arith);
-  pi = λ form s t f i tray. says-bytes tray (sheet_of (pi_in listed form s t f i)) max_instance_bytes (pi-answer listed-tests form s t f i tray)
-      (lows form (pi_refusals listed_tests) ((16, 0) ∷ []) refl refl) (results_within.pi form s t f i) (omega arith);
+  delta = λ s t f j tray. says-bytes tray (sheet_of (delta_tables s t f j)) max_instance_bytes (delta-answer tray s t f j) refl (results_within.delta s t f j) (omega arith);
+  sigma = λ s t f i tray. says-bytes tray (sheet_of (sigma_tables s t f i)) max_instance_bytes (sigma-answer tray s t f i) refl (results_within.sigma s t f i) (omega arith);
+  pi = λ s t f i tray. says-bytes tray (sheet_of (pi_tables s t f i)) max_instance_bytes (pi-answer tray s t f i) refl (results_within.pi s t f i) (omega arith);
   query = λ s1 s2 s3 s4 f g h i tray. says-bytes tray (sheet_of (query_tables s1 s2 s3 s4 f g h i)) max_instance_bytes (query-answer tray s1 s2 s3 s4 f g h i) refl (results_within.query s1 s2 s3 s4 f g h i) (omega arith);
   add-row = λ s t f run n c row pushed. says-sheets run pushed (addition_sheets s t f (take n run) c row) (add_row-answer s t f run n c row pushed) refl (results_within.row_added s t f (take n run) c row);
   withdraw-row = λ s t f run n c r pushed. says-sheets run pushed (withdrawal_sheets s t f (take n run) c r) (withdraw_row-answer s t f run n c r pushed) refl (results_within.row_withdrawn s t f (take n run) c r);
   compose = λ s t u f g tray. says-bytes tray (compose s t u f g) max_mapping_bytes (compose-answer s t u f g tray) refl (results_within.compose s t u f g) (omega arith);
-  check-pushed = λ form s t f i j k. says-check (check_pushed-answer listed-tests form s t f i j k) (form-low form (matching_refusals listed_tests) refl refl);
-  check-raw = λ form s t f i j k. says-check (check_raw-answer listed-tests form s t f i j k) (form-low form (matching_refusals listed_tests) refl refl);
-  pushed-to-raw = λ form s t f i j k tray. says-bytes tray (pushed_to_raw_in listed form s t f i j k) max_matching_bytes (pushed_to_raw-answer listed-tests form s t f i j k tray)
-      (lows form (matching_refusals listed_tests) ((16, 0) ∷ []) refl refl) (results_within.pushed-to-raw form s t f i j k) (omega arith);
-  raw-to-pushed = λ form s t f i j k tray. says-bytes tray (raw_to_pushed_in listed form s t f i j k) max_matching_bytes (raw_to_pushed-answer listed-tests form s t f i j k tray)
-      (lows form (matching_refusals listed_tests) ((16, 0) ∷ []) refl refl) (results_within.raw-to-pushed form s t f i j k) (omega arith);
+  check-pushed = λ s t f i j k. says-check (check_pushed-decided s t f i j k) refl;
+  check-raw = λ s t f i j k. says-check (check_raw-decided s t f i j k) refl;
+  pushed-to-raw = λ s t f i j k tray. says-bytes tray (pushed_to_raw s t f i j k) max_matching_bytes (pushed_to_raw-answer tray s t f i j k) refl (results_within.pushed-to-raw s t f i j k) (omega arith);
+  raw-to-pushed = λ s t f i j k tray. says-bytes tray (raw_to_pushed s t f i j k) max_matching_bytes (raw_to_pushed-answer tray s t f i j k) refl (results_within.raw-to-pushed s t f i j k) (omega arith);
 }

@@ -10,15 +10,15 @@ use Rattle.theory.specs.Matching.{partners}
 use Rattle.theory.specs.Sigma.{share}
 use Rattle.theory.specs.Transposition.{to_raw, to_pushed}
 use Rattle.meaning.specs.Lists.{sum_of}
-use Rattle.meaning.specs.Formats.{Kinds, max_rows, matching_sheet}
-use Rattle.meaning.specs.SchemaKinds.{listed}
+use Rattle.meaning.specs.Formats.{max_rows, matching_sheet}
 use Rattle.meaning.specs.Views.{mapping_of, instance_of}
 use Rattle.meaning.specs.Judge.{judge_instance}
 use Rattle.meaning.specs.Evenness.{even}
 use Rattle.meaning.specs.Delta.{delta}
 use Rattle.meaning.specs.Sigma.{sigma}
 use Rattle.meaning.specs.Calls as meaning
-use Rattle.meaning.specs.Calls.{Outcome, accepted, ◌>>=◌, at, ensure, Migration, migration, sides, judge_raw, judge_pushed}
+use Rattle.meaning.specs.Calls.{Outcome, accepted, ◌>>=◌, at, ensure, Migration, migration, sides, judge_raw, judge_pushed, check_raw, check_pushed, pushed_to_raw, raw_to_pushed}
+use Rattle.meaning.specs.Category.{listed_category}
 use Rattle.matching.specs.Compared.{partners_of}
 use Rattle.steps.specs.declared.Refusal.{Refusal}
 use Rattle.steps.specs.declared.open.Opened.{Opened}
@@ -27,33 +27,32 @@ use Rattle.migration.specs.declared.matchings.Side.{Side}
 use Rattle.migration.specs.declared.matchings.Side.TheVariants as side
 use Rattle.steps.specs.Answers.{outcome_of}
 use Rattle.steps.specs.Opened.{opened_of, Opens}
-use Rattle.migration.specs.Answers.{side_checked, side_turned}
 use Rattle.migration.specs.Sides.{Inputs, inputs, sized, sides_of, inputs_of, SidesSay, Rooms}
 use Rattle.migration.specs.Turnable.{Turnable, turnable, matched_side, turned_list, turnable_of, Matches}
 use Rattle.steps.proofs.Refusing.{no_refusal, yields, stops, bind_assoc}
 use Rattle.migration.proofs.Validity.{pushed-rows}
 
 -- the inputs, then the sizes of both migrated tables
-grouped : (ks : Kinds) (s t f i j : List ℕ) → (inputs ks (migration listed s t f) i j >>= sized) ≡ sides listed ks s t f i j
-grouped ks s t f i j =
-    bind_assoc (migration listed s t f) _ sized _ (λ m.
-    bind_assoc (at 4 (judge_instance ks m.S.schema i)) _ sized _ (λ I.
-    bind_assoc (at 5 (judge_instance ks m.T.schema j)) _ sized _ (λ J.
-    bind_assoc (ensure (even m.S m.T m.F) 12) _ sized _ (λ u. refl))))
+grouped : (s t f i j : List ℕ) → (inputs (migration s t f) i j >>= sized) ≡ sides s t f i j
+grouped s t f i j =
+    bind_assoc (migration s t f) _ sized _ (λ m.
+    bind_assoc (at 4 (judge_instance m.S i)) _ sized _ (λ I.
+    bind_assoc (at 5 (judge_instance m.T j)) _ sized _ (λ J.
+    bind_assoc (ensure (even (listed_category m.S) (listed_category m.T) m.F) 12) _ sized _ (λ u. refl))))
 
 module _ {B : Type 0} (y : Inputs) (k h : meaning.Sides → Outcome B) where
   -- both sizes pass, or nothing follows
   sized-only : k (sides_of y) ≡ h (sides_of y) → (sized y >>= k) ≡ (sized y >>= h)
-  sized-only e = go (leb (sum_of (sigma y.m.S y.m.T y.m.F y.run).counts) max_rows) (leb (sum_of (delta y.m.S.schema y.m.F y.book).counts) max_rows)
+  sized-only e = go (leb (sum_of (sigma (listed_category y.m.S) (listed_category y.m.T) y.m.F y.run).counts) max_rows) (leb (sum_of (delta y.m.S y.m.F y.book).counts) max_rows)
     where
       by : Bool → Bool → Outcome meaning.Sides
       by a b = do
         P ← do
           _ ← ensure a 15
-          accepted (sigma y.m.S y.m.T y.m.F y.run)
+          accepted (sigma (listed_category y.m.S) (listed_category y.m.T) y.m.F y.run)
         D ← do
           _ ← ensure b 15
-          accepted (delta y.m.S.schema y.m.F y.book)
+          accepted (delta y.m.S y.m.F y.book)
         accepted (record { m = y.m; run = y.run; book = y.book; pushed = P; pulled = D })
 
       go : (a b : Bool) → (by a b >>= k) ≡ (by a b >>= h)
@@ -62,7 +61,7 @@ module _ {B : Type 0} (y : Inputs) (k h : meaning.Sides → Outcome B) where
       go false b = refl
 
 -- a side's judge, and what is made of what it accepts
-module _ {B : Type 0} (ks : Kinds) (s t f i j k : List ℕ) (judge : meaning.Sides → List ℕ → Outcome (List ℕ)) (g : Turnable → Outcome B) (h : meaning.Sides → List ℕ → Outcome B)
+module _ {B : Type 0} (s t f i j k : List ℕ) (judge : meaning.Sides → List ℕ → Outcome (List ℕ)) (g : Turnable → Outcome B) (h : meaning.Sides → List ℕ → Outcome B)
     (e : (y : Inputs) (l : List ℕ) → g (turnable y l) ≡ h (sides_of y) l) where
   abbrev made : meaning.Sides → Outcome B
   made x = do
@@ -87,27 +86,32 @@ module _ {B : Type 0} (ks : Kinds) (s t f i j k : List ℕ) (judge : meaning.Sid
       ∙ bind_assoc (sized y) (matched y) g (λ x. matched y x >>= g) (λ x. refl)
       ∙ sized-only y (λ x. matched y x >>= g) made (bind_assoc (judge (sides_of y) k) (λ l. accepted (turnable y l)) g (h (sides_of y)) (e y))
 
-  regrouped : ((inputs ks (migration listed s t f) i j >>= tested) >>= g) ≡ (sides listed ks s t f i j >>= made)
+  regrouped : ((inputs (migration s t f) i j >>= tested) >>= g) ≡ (sides s t f i j >>= made)
   regrouped =
-      bind_assoc (inputs ks (migration listed s t f) i j) tested g (λ y. sized y >>= made) each
-      ∙ sym (bind_assoc (inputs ks (migration listed s t f) i j) sized made (λ y. sized y >>= made) (λ y. refl))
-      ∙ ap (λ (o : Outcome meaning.Sides). o >>= made) (grouped ks s t f i j)
+      bind_assoc (inputs (migration s t f) i j) tested g (λ y. sized y >>= made) each
+      ∙ sym (bind_assoc (inputs (migration s t f) i j) sized made (λ y. sized y >>= made) (λ y. refl))
+      ∙ ap (λ (o : Outcome meaning.Sides). o >>= made) (grouped s t f i j)
 
-module _ (ks : Kinds) (s t f i j k : List ℕ) where
-  pub side-checked : (side : Side) → (matched_side side ks (migration listed s t f) i j k >>= λ _. accepted tt) ≡ side_checked ks s t f i j k side
-  side-checked side.Pushed = regrouped ks s t f i j k judge_pushed (λ _. accepted tt) (λ _ _. accepted tt) (λ y l. refl)
-  side-checked side.Raw = regrouped ks s t f i j k judge_raw (λ _. accepted tt) (λ _ _. accepted tt) (λ y l. refl)
+module _ (s t f i j k : List ℕ) where
+  pub raw_checked : (matched_side side.Raw (migration s t f) i j k >>= λ _. accepted tt) ≡ check_raw s t f i j k
+  raw_checked = regrouped s t f i j k judge_raw (λ _. accepted tt) (λ _ _. accepted tt) (λ y l. refl)
+
+  pub pushed_checked : (matched_side side.Pushed (migration s t f) i j k >>= λ _. accepted tt) ≡ check_pushed s t f i j k
+  pushed_checked = regrouped s t f i j k judge_pushed (λ _. accepted tt) (λ _ _. accepted tt) (λ y l. refl)
 
   -- a turning looks at counts alone
-  pub side-turned : (side : Side) → (matched_side side ks (migration listed s t f) i j k >>= λ z. accepted (matching_sheet (turned_list side z))) ≡ side_turned ks s t f i j k side
+  pub raw_turned : (matched_side side.Raw (migration s t f) i j k >>= λ z. accepted (matching_sheet (turned_list side.Raw z))) ≡ raw_to_pushed s t f i j k
   unfolding share partners
-  side-turned side.Pushed =
-      regrouped ks s t f i j k judge_pushed (λ z. accepted (matching_sheet (turned_list side.Pushed z)))
-      (λ x l. accepted (matching_sheet (to_raw (mapping_of x.m.S.schema x.m.T.schema x.m.F) (instance_of x.run) (instance_of x.pushed) l)))
+  raw_turned =
+      regrouped s t f i j k judge_raw (λ z. accepted (matching_sheet (turned_list side.Raw z)))
+      (λ x l. accepted (matching_sheet (to_pushed (mapping_of x.m.S x.m.T x.m.F) (instance_of x.run) (instance_of x.pushed) l)))
       (λ y l. refl)
-  side-turned side.Raw =
-      regrouped ks s t f i j k judge_raw (λ z. accepted (matching_sheet (turned_list side.Raw z)))
-      (λ x l. accepted (matching_sheet (to_pushed (mapping_of x.m.S.schema x.m.T.schema x.m.F) (instance_of x.run) (instance_of x.pushed) l)))
+
+  pub pushed_turned : (matched_side side.Pushed (migration s t f) i j k >>= λ z. accepted (matching_sheet (turned_list side.Pushed z))) ≡ pushed_to_raw s t f i j k
+  unfolding share partners
+  pushed_turned =
+      regrouped s t f i j k judge_pushed (λ z. accepted (matching_sheet (turned_list side.Pushed z)))
+      (λ x l. accepted (matching_sheet (to_raw (mapping_of x.m.S x.m.T x.m.F) (instance_of x.run) (instance_of x.pushed) l)))
       (λ y l. refl)
 
 -- ---- the inputs in working arrays, then a side
@@ -141,5 +145,5 @@ module _ (x : Sides) (links values links' values' list : List ℕ) {o : Opened} 
   side-stopped some = record { says = stops x.refusal y S.says (turnable_of x list) follows some; ready = λ z. absurd (some z) }
 
 -- the steps, of the sheets that were opened
-pub side-told : (ks : Kinds) {o : Opened} {M : Outcome Migration} → Opens o M → (side : Side) (i j k : List ℕ) {x : Sides} {list : List ℕ} → Matches x list (matched_side side ks (opened_of o) i j k) → Matches x list (matched_side side ks M i j k)
-side-told ks O side i j k u = record { says = u.says ∙ ap (λ (M : Outcome Migration). matched_side side ks M i j k) O.says; ready = u.ready }
+pub side-told : {o : Opened} {M : Outcome Migration} → Opens o M → (side : Side) (i j k : List ℕ) {x : Sides} {list : List ℕ} → Matches x list (matched_side side (opened_of o) i j k) → Matches x list (matched_side side M i j k)
+side-told O side i j k u = record { says = u.says ∙ ap (λ (M : Outcome Migration). matched_side side M i j k) O.says; ready = u.ready }

@@ -6,12 +6,11 @@ use mathlib.Core.List.{List}
 use native.Mathlib.Omega.{arith}
 use Rattle.meaning.specs.Lists.{sum_of}
 use Rattle.meaning.specs.Formats as formats
-use Rattle.meaning.specs.Formats.{Kinds}
 use Rattle.meaning.specs.Pi.{is_bijective, has_few_components}
 use Rattle.meaning.specs.Judge.{judge_instance}
 use Rattle.meaning.specs.Calls as meaning
 use Rattle.meaning.specs.Calls.{Outcome, at, ensure, Migration, migration, pi_tables, ◌>>=◌}
-use Rattle.meaning.specs.SchemaKinds.{listed}
+use Rattle.meaning.specs.Category.{listed_category}
 use Rattle.schema.specs.Decoded.{schema_of, category_of}
 use Rattle.schema.specs.Judged.{Sound}
 use Rattle.mapping.specs.Decoded.{mapping_of}
@@ -44,7 +43,7 @@ two-passed true false e = absurd (omega arith)
 two-passed false b e = absurd (omega arith)
 
 abbrev rest : RunInput → Outcome meaning.Migrated
-rest y = ensure (is_bijective y.m.T.schema y.m.F) 13 >>= λ _. ensure (has_few_components y.m.S y.m.T y.m.F) 14 >>= λ _. joined_run y
+rest y = ensure (is_bijective y.m.T y.m.F) 13 >>= λ _. ensure (has_few_components (listed_category y.m.S) (listed_category y.m.T) y.m.F) 14 >>= λ _. joined_run y
 
 module _ (o : Opened) (run : Instance) (links values rows : List ℕ) where
   abbrev input : RunInput
@@ -78,7 +77,7 @@ module _ (o : Opened) (run : Instance) (links values rows : List ℕ) where
         go true e = ap (λ (J : formats.Instance). outcome_of (refusal 0 0) (made J)) (L.says e)
         go false e = refl
 
-  module _ {ks : Kinds} {r : Refusal} {X : Outcome RunInput} (I : RunSays ks o r run links values X) where
+  module _ {r : Refusal} {X : Outcome RunInput} (I : RunSays o r run links values X) where
     -- a sheet was refused
     pub sheets-stopped : {x : Joined} → x.refusal ≡ r → (r.number ≡ 0 → ⊥) → Joins o x rows values (tested_joined X)
     sheets-stopped {x} e some = record {
@@ -133,7 +132,7 @@ families-made o x S L R m = record {
 }
 
 -- the steps, of the sheets that were opened
-pub pi-told : (ks : Kinds) {o : Opened} (s t f i : List ℕ) → Opens o (migration listed s t f) → tested_joined (run_input ks (opened_of o) i) ≡ pi_tables listed ks s t f i
-pi-told ks s t f i O =
-    ap (λ (M : Outcome Migration). tested_joined (run_input ks M i)) O.says
-    ∙ bind_assoc (migration listed s t f) _ rest _ (λ m. bind_assoc (at 4 (judge_instance ks m.S.schema i)) _ rest _ (λ I. refl))
+pub pi-told : {o : Opened} (s t f i : List ℕ) → Opens o (migration s t f) → tested_joined (run_input (opened_of o) i) ≡ pi_tables s t f i
+pi-told s t f i O =
+    ap (λ (M : Outcome Migration). tested_joined (run_input M i)) O.says
+    ∙ bind_assoc (migration s t f) _ rest _ (λ m. bind_assoc (at 4 (judge_instance m.S i)) _ rest _ (λ I. refl))

@@ -15,6 +15,7 @@ use Rattle.meaning.specs.Matching.{judge_matching}
 use Rattle.meaning.specs.Sigma.{sigma}
 use Rattle.meaning.specs.Calls as meaning
 use Rattle.meaning.specs.Calls.{Outcome, refused, accepted, ◌>>=◌, judge_raw, judge_pushed}
+use Rattle.meaning.specs.Category.{listed_category}
 use Rattle.schema.specs.Decoded.{front_of}
 use Rattle.instance.specs.declared.Instance.{Instance}
 use Rattle.instance.specs.Decoded.{tables_of, RoomFor}
@@ -37,8 +38,8 @@ module _ {x : Sides} {links values links' values' : List ℕ} (M : Migratable x 
   pulled = delta_of x.opened.source x.opened.target x.opened.mapping x.book links' values'
 
   -- 15 never arises for Sigma
-  fit : leb (sum_of (sigma y.m.S y.m.T y.m.F y.run).counts) max_rows ≡ true
-  fit = le-leb (sum_of (sigma y.m.S y.m.T y.m.F y.run).counts) max_rows (pushed-valid M).few_rows
+  fit : leb (sum_of (sigma (listed_category y.m.S) (listed_category y.m.T) y.m.F y.run).counts) max_rows ≡ true
+  fit = le-leb (sum_of (sigma (listed_category y.m.S) (listed_category y.m.T) y.m.F y.run).counts) max_rows (pushed-valid M).few_rows
 
   both-fit : leb (sum_of pulled.counts) max_rows ≡ true → sized y ≡ accepted (sides_of y)
   both-fit e = rw (fit, e)
@@ -63,10 +64,10 @@ module _ {x : Sides} {links values links' values' : List ℕ} (M : Migratable x 
 
     -- the raw side: d stands in working arrays with all its tables
     pub raw-told : {followed copied : List ℕ} → Pulled x.opened.source x.opened.target x.opened.mapping x.book links' values' d followed copied → n ≡ 0 → (fault : ℕ) (list sheet : List ℕ)
-        → judged_matching x.opened.source x.run fault list ≡ judge_matching y.m.S.schema y.run (tables_of x.opened.source d followed copied) sheet
+        → judged_matching x.opened.source x.run fault list ≡ judge_matching y.m.S y.run (tables_of x.opened.source d followed copied) sheet
         → outcome_of (refusal fault 6) (partners_of x.opened.source x.run list) ≡ raw_list y sheet
     raw-told P z fault list sheet e =
-        judged-at fault 6 (partners_of x.opened.source x.run list) (e ∙ ap (λ (B : formats.Instance). judge_matching y.m.S.schema y.run B sheet) P.says)
+        judged-at fault 6 (partners_of x.opened.source x.run list) (e ∙ ap (λ (B : formats.Instance). judge_matching y.m.S y.run B sheet) P.says)
         ∙ ap (λ (o : Outcome meaning.Sides). o >>= λ z. judge_raw z sheet) (sym (sized-small z))
 
   -- ---- the pushed side: p stands in working arrays with all its tables
@@ -78,7 +79,7 @@ module _ {x : Sides} {links values links' values' : List ℕ} (M : Migratable x 
       limits' = M.book_limits;
       room = r;
       room' = r';
-      links_in = subst (λ (J : formats.Instance). links_in_range y.m.T.schema J ≡ true) (sym P.says) (pushed-links-in M);
+      links_in = subst (λ (J : formats.Instance). links_in_range y.m.T J ≡ true) (sym P.says) (pushed-links-in M);
       long = l;
     }
 
@@ -88,9 +89,9 @@ module _ {x : Sides} {links values links' values' : List ℕ} (M : Migratable x 
 
     pub pushed-told : (d : Instance) {n : ℕ} → front_of x.opened.source.graph.nodes d.counts ≡ pulled.counts → n ≡ cond (leb (sum_of (front_of x.opened.source.graph.nodes d.counts)) max_rows) 0 15
         → n ≡ 0 → (fault : ℕ) (list sheet : List ℕ)
-        → judged_matching x.opened.target p fault list ≡ judge_matching y.m.T.schema (tables_of x.opened.target p followed copied) y.book sheet
+        → judged_matching x.opened.target p fault list ≡ judge_matching y.m.T (tables_of x.opened.target p followed copied) y.book sheet
         → outcome_of (refusal fault 6) (partners_of x.opened.source x.run list) ≡ pushed_list y sheet
     pushed-told d C D z fault list sheet e =
         ap (outcome_of (refusal fault 6)) (same-partners list)
-        ∙ judged-at fault 6 (partners_of x.opened.target p list) (e ∙ ap (λ (A : formats.Instance). judge_matching y.m.T.schema A y.book sheet) P.says)
+        ∙ judged-at fault 6 (partners_of x.opened.target p list) (e ∙ ap (λ (A : formats.Instance). judge_matching y.m.T A y.book sheet) P.says)
         ∙ ap (λ (o : Outcome meaning.Sides). o >>= λ z. judge_pushed z sheet) (sym (sized-small d C D z))

@@ -6,7 +6,7 @@ use mathlib.Core.List.{List}
 use lib.Dec.{leb}
 use Rattle.meaning.specs.Lists.{sum_of}
 use Rattle.meaning.specs.Formats as formats
-use Rattle.meaning.specs.Formats.{Kinds, max_rows}
+use Rattle.meaning.specs.Formats.{max_rows}
 use Rattle.meaning.specs.Judge.{judge_instance}
 use Rattle.meaning.specs.Delta.{delta}
 use Rattle.meaning.specs.Calls as meaning
@@ -28,20 +28,20 @@ use Rattle.steps.proofs.Sizes.{size, sized, made, stopped}
 
 -- ---- Delta
 
-module _ (ks : Kinds) (o : Opened) (b : Instance) (links values j : List ℕ) (J : judged_instance o.target b links values ≡ judge_instance ks (schema_of o.target) j) where
+module _ (o : Opened) (b : Instance) (links values j : List ℕ) (J : judged_instance o.target b links values ≡ judge_instance (schema_of o.target) j) where
   abbrev pulled : formats.Instance
   pulled = delta_of o.source o.target o.mapping b links values
 
   abbrev result : meaning.Migrated
   result = record { schema = schema_of o.source; tables = pulled }
 
-  delta-told : outcome_of (or_next (or_next o.refusal (refusal b.fault 4)) (size pulled)) result ≡ pulled_book ks (opened_of o) j
+  delta-told : outcome_of (or_next (or_next o.refusal (refusal b.fault 4)) (size pulled)) result ≡ pulled_book (opened_of o) j
   delta-told =
       rw (or_assoc o.refusal (refusal b.fault 4) (size pulled)) (
       then o.refusal (migration_of o) refl (or_next (refusal b.fault 4) (size pulled)) result (λ m. do
-        J ← at 4 (judge_instance ks m.T.schema j)
-        D ← ensure_fits (delta m.S.schema m.F J)
-        accepted (record { schema = m.S.schema; tables = D }))
+        J ← at 4 (judge_instance m.T j)
+        D ← ensure_fits (delta m.S m.F J)
+        accepted (record { schema = m.S; tables = D }))
       (then (refusal b.fault 4) (tables_of o.target b links values) (judged-at b.fault 4 (tables_of o.target b links values) J) (size pulled) result (λ J. do
         D ← ensure_fits (delta (schema_of o.source) (mapping_of o.source o.mapping) J)
         accepted (record { schema = schema_of o.source; tables = D }))
@@ -50,13 +50,13 @@ module _ (ks : Kinds) (o : Opened) (b : Instance) (links values j : List ℕ) (J
   module _ {r : Refusal} (S : Sound o.source) (e : r ≡ or_next o.refusal (refusal b.fault 4)) where
     pub delta-made : {d : Instance} {followed copied : List ℕ} {n : ℕ} → r.number ≡ 0 → Pulled o.source o.target o.mapping b links values d followed copied
         → n ≡ cond (leb (sum_of (front_of o.source.graph.nodes d.counts)) max_rows) 0 15 → RoomFor o.source followed copied
-        → Migrates (record { refusal = refusal n 0; schema = o.source; tables = d }) followed copied (pulled_book ks (opened_of o) j)
+        → Migrates (record { refusal = refusal n 0; schema = o.source; tables = d }) followed copied (pulled_book (opened_of o) j)
     delta-made z p d R =
         made S R p.long d (
         ap (λ (J : formats.Instance). outcome_of (size J) (record { schema = schema_of o.source; tables = J })) p.says ∙
         ap (λ (r : Refusal). outcome_of r result) (sym (or-none r (size pulled) z) ∙ ap (λ (r : Refusal). or_next r (size pulled)) e) ∙ delta-told)
 
-    pub delta-stopped : (r.number ≡ 0 → ⊥) → {l v : List ℕ} → RoomFor o.source l v → Migrates (record { refusal = r; schema = o.source; tables = b }) l v (pulled_book ks (opened_of o) j)
+    pub delta-stopped : (r.number ≡ 0 → ⊥) → {l v : List ℕ} → RoomFor o.source l v → Migrates (record { refusal = r; schema = o.source; tables = b }) l v (pulled_book (opened_of o) j)
     delta-stopped some R =
         stopped S R result some (
         ap (λ (r : Refusal). outcome_of r result) (sym (or_some r (size pulled) some) ∙ ap (λ (r : Refusal). or_next r (size pulled)) e) ∙ delta-told)

@@ -7,7 +7,7 @@ use native.Mathlib.Omega.{arith}
 use Rattle.meaning.specs.Judge.{judge_instance}
 use Rattle.meaning.specs.Evenness.{even}
 use Rattle.meaning.specs.Calls.{Outcome, accepted, at, ensure, Migration, ◌>>=◌}
-use Rattle.meaning.specs.Formats.{Kinds}
+use Rattle.meaning.specs.Category.{listed_category}
 use Rattle.schema.specs.Decoded.{schema_of, category_of}
 use Rattle.mapping.specs.Decoded.{mapping_of}
 use Rattle.instance.specs.declared.Instance.{Instance}
@@ -21,8 +21,8 @@ use Rattle.migration.specs.Sides.{Inputs, inputs, SidesSay}
 use Rattle.steps.proofs.Refusing.{refusal, judged-at, then, yields, tested, or-none, or_some, or_assoc, none_first, none-next}
 use Rattle.steps.proofs.Opening.{passed}
 
-module _ (ks : Kinds) (o : Opened) {M : Outcome Migration} (O : Opens o M) (run book : Instance) (links values links' values' i j : List ℕ)
-    (I : Tested ks o.source run links values (judge_instance ks (schema_of o.source) i)) (J : Tested ks o.target book links' values' (judge_instance ks (schema_of o.target) j)) where
+module _ (o : Opened) {M : Outcome Migration} (O : Opens o M) (run book : Instance) (links values links' values' i j : List ℕ)
+    (I : Tested o.source run links values (judge_instance (schema_of o.source) i)) (J : Tested o.target book links' values' (judge_instance (schema_of o.target) j)) where
   abbrev is-even : Bool
   is-even = even (category_of o.source) (category_of o.target) (mapping_of o.source o.mapping)
 
@@ -41,16 +41,16 @@ module _ (ks : Kinds) (o : Opened) {M : Outcome Migration} (O : Opens o M) (run 
   abbrev sheets : Refusal
   sheets = or_next (or_next o.refusal run-refusal) book-refusal
 
-  inputs-told : outcome_of (or_next sheets evenness) result ≡ inputs ks M i j
+  inputs-told : outcome_of (or_next sheets evenness) result ≡ inputs M i j
   inputs-told =
       rw (or_assoc (or_next o.refusal run-refusal) book-refusal evenness, or_assoc o.refusal run-refusal (or_next book-refusal evenness)) (
       then o.refusal (migration_of o) O.says (or_next run-refusal (or_next book-refusal evenness)) result (λ m. do
-        I ← at 4 (judge_instance ks m.S.schema i)
-        J ← at 5 (judge_instance ks m.T.schema j)
-        _ ← ensure (even m.S m.T m.F) 12
+        I ← at 4 (judge_instance m.S i)
+        J ← at 5 (judge_instance m.T j)
+        _ ← ensure (even (listed_category m.S) (listed_category m.T) m.F) 12
         accepted (record { m = m; run = I; book = J }))
       (then run-refusal result.run (judged-at run.fault 4 result.run I.says) (or_next book-refusal evenness) result (λ I. do
-        J ← at 5 (judge_instance ks (schema_of o.target) j)
+        J ← at 5 (judge_instance (schema_of o.target) j)
         _ ← ensure is-even 12
         accepted (record { m = migration_of o; run = I; book = J }))
       (then book-refusal result.book (judged-at book.fault 5 result.book J.says) evenness result (λ J. do
@@ -59,7 +59,7 @@ module _ (ks : Kinds) (o : Opened) {M : Outcome Migration} (O : Opens o M) (run 
       (yields evenness tt (tested is-even 12 (λ e. omega arith)) (λ _. result)))))
 
   module _ {r : Refusal} (e : r ≡ sheets) where
-    told : {q : Refusal} → or_next r evenness ≡ q → outcome_of q result ≡ inputs ks M i j
+    told : {q : Refusal} → or_next r evenness ≡ q → outcome_of q result ≡ inputs M i j
     told d = ap (λ (r : Refusal). outcome_of r result) (sym d ∙ ap (λ (r : Refusal). or_next r evenness) e) ∙ inputs-told
 
     module _ (z : r.number ≡ 0) where
@@ -69,12 +69,11 @@ module _ (ks : Kinds) (o : Opened) {M : Outcome Migration} (O : Opens o M) (run 
       pub sides-ready : Ready o
       sides-ready = O.ready (none_first o.refusal run-refusal (none_first (or_next o.refusal run-refusal) book-refusal none))
 
-      pub sides-open : {n : ℕ} → n ≡ cond is-even 0 12 → SidesSay o (record { refusal = refusal n 0; opened = o; run = run; book = book }) links values links' values' (inputs ks M i j)
+      pub sides-open : {n : ℕ} → n ≡ cond is-even 0 12 → SidesSay o (record { refusal = refusal n 0; opened = o; run = run; book = book }) links values links' values' (inputs M i j)
       sides-open d = record {
         says = ap (λ (n : ℕ). outcome_of (refusal n 0) result) d ∙ told (or-none r evenness z);
         same = refl;
         migratable = λ w. record {
-          kinds = ks;
           ready = sides-ready;
           run_limits = I.limits;
           book_limits = J.limits;
@@ -84,5 +83,5 @@ module _ (ks : Kinds) (o : Opened) {M : Outcome Migration} (O : Opens o M) (run 
         };
       }
 
-    pub sides-stopped : (r.number ≡ 0 → ⊥) → SidesSay o (record { refusal = r; opened = o; run = run; book = book }) links values links' values' (inputs ks M i j)
+    pub sides-stopped : (r.number ≡ 0 → ⊥) → SidesSay o (record { refusal = r; opened = o; run = run; book = book }) links values links' values' (inputs M i j)
     sides-stopped some = record { says = told (or_some r evenness some); same = refl; migratable = λ w. absurd (some w) }

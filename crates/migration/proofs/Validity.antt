@@ -5,17 +5,19 @@ use mathlib.Core.Bool.{true}
 use mathlib.Core.List.{List}
 use Rattle.theory.specs.Mapping.{Even}
 use Rattle.meaning.specs.Lists.{sum_of}
-use Rattle.meaning.specs.Category.{Category}
+use Rattle.meaning.specs.Schema as meaning
 use Rattle.meaning.specs.Formats as formats
+use Rattle.meaning.specs.Formats.{kinds}
 use Rattle.meaning.specs.Views as views
 use Rattle.meaning.specs.Judge.{links_in_range}
 use Rattle.meaning.specs.Sigma.{sigma}
+use Rattle.meaning.specs.Category.{listed_category}
 use Rattle.agreement.proofs.Instances.{links-iff}
 use Rattle.agreement.specs.Valid.{ValidMapping, ValidInstance}
 use Rattle.agreement.proofs.Evenness.{even-iff}
 use Rattle.agreement.proofs.Sigma.{sigma-total, sigma-valid}
 use Rattle.schema.specs.declared.Schema.{Schema}
-use Rattle.schema.specs.Decoded.{category_of}
+use Rattle.schema.specs.Decoded.{schema_of}
 use Rattle.instance.specs.declared.Instance.{Instance}
 use Rattle.instance.specs.Decoded.{tables_of}
 use Rattle.mapping.specs.declared.Mapping.{Mapping}
@@ -28,11 +30,11 @@ use Rattle.steps.proofs.Validity.{ready-valid}
 -- ---- the run and its Sigma
 
 module _ {x : Sides} {links values links' values' : List ℕ} (M : Migratable x links values links' values') where
-  abbrev S : Category
-  S = category_of x.opened.source
+  abbrev S : meaning.Schema
+  S = schema_of x.opened.source
 
-  abbrev T : Category
-  T = category_of x.opened.target
+  abbrev T : meaning.Schema
+  T = schema_of x.opened.target
 
   abbrev F : formats.Mapping
   F = mapping_of x.opened.source x.opened.mapping
@@ -40,20 +42,20 @@ module _ {x : Sides} {links values links' values' : List ℕ} (M : Migratable x 
   abbrev run : formats.Instance
   run = tables_of x.opened.source x.run links values
 
-  mapping-valid : ValidMapping S T F
+  mapping-valid : ValidMapping (listed_category S) (listed_category T) F
   mapping-valid = ready-valid M.ready
 
-  mapping-even : Even (views.mapping_of S.schema T.schema F)
+  mapping-even : Even (views.mapping_of S T F)
   mapping-even = (even-iff mapping-valid).0 M.is-even
 
-  run-valid : ValidInstance M.kinds S.schema run
+  run-valid : ValidInstance S run
   run-valid = accepted-valid M.ready.schemas.source x.run links values M.run_limits M.run
 
-  pub pushed-valid : ValidInstance M.kinds T.schema (sigma S T F run)
+  pub pushed-valid : ValidInstance T (sigma (listed_category S) (listed_category T) F run)
   pushed-valid = sigma-valid mapping-valid mapping-even run-valid
 
-  pub pushed-rows : sum_of (sigma S T F run).counts ≡ sum_of run.counts
+  pub pushed-rows : sum_of (sigma (listed_category S) (listed_category T) F run).counts ≡ sum_of run.counts
   pushed-rows = sigma-total mapping-valid mapping-even run-valid
 
-  pub pushed-links-in : links_in_range T.schema (sigma S T F run) ≡ true
-  pushed-links-in = (links-iff M.kinds T.schema (sigma S T F run) pushed-valid.shaped).1 pushed-valid.is.link-in
+  pub pushed-links-in : links_in_range T (sigma (listed_category S) (listed_category T) F run) ≡ true
+  pushed-links-in = (links-iff kinds T (sigma (listed_category S) (listed_category T) F run) pushed-valid.shaped).1 pushed-valid.is.link-in

@@ -1,13 +1,8 @@
 -- What an answer says in the terms of document 01: the number and the values of each case of an enum.
 use Rattle.std.specs.Prelude.{ℕ, ◌+◌, ◌*◌, ◌≡◌, cond, List, eqb}
 use Rattle.meaning.specs.Schema.{Schema}
-use Rattle.meaning.specs.Formats.{Kinds, kinds}
 use Rattle.meaning.specs.Judge.{judge_instance}
-use Rattle.meaning.specs.SchemaKinds.{listed}
 use Rattle.meaning.specs.Calls.{Outcome, refused, accepted, ◌>>=◌, at, check_pushed, check_raw, pushed_to_raw, raw_to_pushed, Lent, in_tray}
-use Rattle.meaning.specs.OwnKinds.{Form, check_pushed_in, check_raw_in, pushed_to_raw_in, raw_to_pushed_in}
-use Rattle.migration.specs.declared.matchings.Side.{Side}
-use Rattle.migration.specs.declared.matchings.Side.TheVariants as side
 use Rattle.migration.specs.declared.Verdict.{Verdict}
 use Rattle.migration.specs.declared.Verdict.TheVariants as verdict
 use Rattle.migration.specs.declared.Explained.{Explained}
@@ -35,35 +30,24 @@ explained l = (explanation_of l.answer, l.tray)
 -- an instance sheet at place 2
 abbrev pub checked_sheet : Schema → List ℕ → Outcome (Unit {0})
 checked_sheet S i = do
-  _ ← at 2 (judge_instance kinds S i)
+  _ ← at 2 (judge_instance S i)
   accepted tt
 
 -- ---- what the checkers and the turnings promise, of the sheets s, t, f, run, book and list
 
--- by a list of kinds: of either side
-module _ (ks : Kinds) (s t f run book list : List ℕ) where
-  abbrev pub side_checked : Side → Outcome (Unit {0})
-  side_checked side.Pushed = check_pushed listed ks s t f run book list
-  side_checked side.Raw = check_raw listed ks s t f run book list
-
-  abbrev pub side_turned : Side → Outcome (List ℕ)
-  side_turned side.Pushed = pushed_to_raw listed ks s t f run book list
-  side_turned side.Raw = raw_to_pushed listed ks s t f run book list
-
--- in a form
-module _ (form : Form) (s t f run book list : List ℕ) where
+module _ (s t f run book list : List ℕ) where
   abbrev pub PushedChecked : Verdict → Type 0
-  PushedChecked r = verdict_of r ≡ check_pushed_in listed form s t f run book list
+  PushedChecked r = verdict_of r ≡ check_pushed s t f run book list
 
   abbrev pub RawChecked : Verdict → Type 0
-  RawChecked r = verdict_of r ≡ check_raw_in listed form s t f run book list
+  RawChecked r = verdict_of r ≡ check_raw s t f run book list
 
   -- of a tray: the answer, and the tray that it leaves
   abbrev pub TurnedToRaw : List ℕ → Written × List ℕ → Type 0
-  TurnedToRaw tray r = lent_of r.0 r.1 ≡ in_tray tray (pushed_to_raw_in listed form s t f run book list)
+  TurnedToRaw tray r = lent_of r.0 r.1 ≡ in_tray tray (pushed_to_raw s t f run book list)
 
   abbrev pub TurnedToPushed : List ℕ → Written × List ℕ → Type 0
-  TurnedToPushed tray r = lent_of r.0 r.1 ≡ in_tray tray (raw_to_pushed_in listed form s t f run book list)
+  TurnedToPushed tray r = lent_of r.0 r.1 ≡ in_tray tray (raw_to_pushed s t f run book list)
 
 -- ---- for C: an answer as one number
 

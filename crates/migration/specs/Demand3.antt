@@ -2,8 +2,6 @@
 -- provisos and clauses are asked of them.
 use Rattle.std.specs.Prelude.{ℕ, List}
 use Rattle.meaning.specs.Calls.{Outcome, refused, accepted, check_pushed, check_raw, pushed_to_raw, raw_to_pushed, Lent, in_tray}
-use Rattle.meaning.specs.SchemaKinds.{listed}
-use Rattle.meaning.specs.OwnKinds.{Form, check_pushed_in, check_raw_in, pushed_to_raw_in, raw_to_pushed_in}
 use Rattle.agreement.specs.Demand3.{Turning, Answers}
 use Rattle.migration.specs.declared.Verdict.{Verdict}
 use Rattle.migration.specs.declared.Verdict.TheVariants as verdict
@@ -12,7 +10,7 @@ use Rattle.steps.specs.declared.Written.TheVariants as written
 use Rattle.migration.specs.Answers.{verdict_of, PushedChecked, RawChecked, TurnedToRaw, TurnedToPushed}
 use Rattle.steps.specs.Answers.{lent_of}
 
--- of the sheets s, t, f, run, book and list; in a second form the kinds sheet has been lent before them
+-- of the sheets s, t, f, run, book and list
 abbrev pub Checker : Type 0
 Checker = List ℕ → List ℕ → List ℕ → List ℕ → List ℕ → List ℕ → Verdict
 
@@ -27,12 +25,12 @@ pub record Calls : Type 0 where
   pub pushed-to-raw : Turner
   pub raw-to-pushed : Turner
 
--- the contracts of `check_pushed`, `check_raw`, `pushed_to_raw` and `raw_to_pushed`, in a form: of the first the calls themselves, of the second `check_pushed_with_kinds` and so on
-pub record MeetsContracts (form : Form) (c : Calls) : Type 0 where
-  pub check-pushed : (s t f i j k : List ℕ) → PushedChecked form s t f i j k (c.check-pushed s t f i j k)
-  pub check-raw : (s t f i j k : List ℕ) → RawChecked form s t f i j k (c.check-raw s t f i j k)
-  pub pushed-to-raw : (s t f i j k tray : List ℕ) → TurnedToRaw form s t f i j k tray (c.pushed-to-raw s t f i j k tray)
-  pub raw-to-pushed : (s t f i j k tray : List ℕ) → TurnedToPushed form s t f i j k tray (c.raw-to-pushed s t f i j k tray)
+-- the contracts of `check_pushed`, `check_raw`, `pushed_to_raw` and `raw_to_pushed`
+pub record MeetsContracts (c : Calls) : Type 0 where
+  pub check-pushed : (s t f i j k : List ℕ) → PushedChecked s t f i j k (c.check-pushed s t f i j k)
+  pub check-raw : (s t f i j k : List ℕ) → RawChecked s t f i j k (c.check-raw s t f i j k)
+  pub pushed-to-raw : (s t f i j k tray : List ℕ) → TurnedToRaw s t f i j k tray (c.pushed-to-raw s t f i j k tray)
+  pub raw-to-pushed : (s t f i j k tray : List ℕ) → TurnedToPushed s t f i j k tray (c.raw-to-pushed s t f i j k tray)
 
 -- ---- answers to the sheets s, t, f, i and j, in the terms of document 01
 
@@ -60,10 +58,10 @@ as_written (refused n place) = written.Refused (record { number = n; place = pla
 abbrev pub as_turned : Lent → Written × List ℕ
 as_turned l = (as_written l.answer, l.tray)
 
-abbrev pub meaning_calls : Form → Calls
-meaning_calls form = record {
-  check-pushed = λ s t f i j k. as_verdict (check_pushed_in listed form s t f i j k);
-  check-raw = λ s t f i j k. as_verdict (check_raw_in listed form s t f i j k);
-  pushed-to-raw = λ s t f i j k tray. as_turned (in_tray tray (pushed_to_raw_in listed form s t f i j k));
-  raw-to-pushed = λ s t f i j k tray. as_turned (in_tray tray (raw_to_pushed_in listed form s t f i j k));
+abbrev pub meaning_calls : Calls
+meaning_calls = record {
+  check-pushed = λ s t f i j k. as_verdict (check_pushed s t f i j k);
+  check-raw = λ s t f i j k. as_verdict (check_raw s t f i j k);
+  pushed-to-raw = λ s t f i j k tray. as_turned (in_tray tray (pushed_to_raw s t f i j k));
+  raw-to-pushed = λ s t f i j k tray. as_turned (in_tray tray (raw_to_pushed s t f i j k));
 }

@@ -3,6 +3,7 @@ use Rattle.std.specs.Prelude.{ℕ, ◌≡◌, List}
 use Rattle.meaning.specs.Pi.{is_bijective, has_few_components, pi}
 use Rattle.meaning.specs.Calls as meaning
 use Rattle.meaning.specs.Calls.{Outcome, accepted, ◌>>=◌, ensure, ensure_fits}
+use Rattle.meaning.specs.Category.{listed_category}
 use Rattle.schema.specs.Decoded.{schema_of}
 use Rattle.pi.specs.Tables.{tables_from, Listed}
 use Rattle.steps.specs.declared.open.Opened.{Opened}
@@ -13,15 +14,15 @@ use Rattle.steps.specs.Runs.{RunInput}
 -- Pi of the run, and its size
 abbrev pub joined_run : RunInput → Outcome meaning.Migrated
 joined_run y = do
-  P ← ensure_fits (pi y.m.S y.m.T y.m.F y.run)
-  accepted (record { schema = y.m.T.schema; tables = P })
+  P ← ensure_fits (pi (listed_category y.m.S) (listed_category y.m.T) y.m.F y.run)
+  accepted (record { schema = y.m.T; tables = P })
 
 -- tests 13 and 14, then Pi
 abbrev pub tested_joined : Outcome RunInput → Outcome meaning.Migrated
 tested_joined X = do
   y ← X
-  _ ← ensure (is_bijective y.m.T.schema y.m.F) 13
-  _ ← ensure (has_few_components y.m.S y.m.T y.m.F) 14
+  _ ← ensure (is_bijective y.m.T y.m.F) 13
+  _ ← ensure (has_few_components (listed_category y.m.S) (listed_category y.m.T) y.m.F) 14
   joined_run y
 
 -- ---- in working arrays: the rows of all families, and the run's values

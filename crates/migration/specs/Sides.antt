@@ -1,13 +1,13 @@
 -- What the judges of a mapping, a run and a book give together, the test of evenness, and the sizes of both migrated tables.
 use Rattle.std.specs.Prelude.{ℕ, ◌≡◌, true, List}
 use Rattle.meaning.specs.Formats as formats
-use Rattle.meaning.specs.Formats.{Kinds}
 use Rattle.meaning.specs.Judge.{judge_instance}
 use Rattle.meaning.specs.Evenness.{even}
 use Rattle.meaning.specs.Delta.{delta}
 use Rattle.meaning.specs.Sigma.{sigma}
 use Rattle.meaning.specs.Calls as meaning
 use Rattle.meaning.specs.Calls.{Outcome, accepted, ◌>>=◌, at, ensure, ensure_fits, Migration}
+use Rattle.meaning.specs.Category.{listed_category}
 use Rattle.schema.specs.Decoded.{category_of}
 use Rattle.mapping.specs.Decoded.{mapping_of}
 use Rattle.instance.specs.Decoded.{tables_of, Limits, RoomFor}
@@ -24,24 +24,24 @@ pub record Inputs : Type 0 where
   pub book : formats.Instance
 
 -- the tests before any table is migrated
-abbrev pub inputs : Kinds → Outcome Migration → List ℕ → List ℕ → Outcome Inputs
-inputs ks M i j = do
+abbrev pub inputs : Outcome Migration → List ℕ → List ℕ → Outcome Inputs
+inputs M i j = do
   m ← M
-  I ← at 4 (judge_instance ks m.S.schema i)
-  J ← at 5 (judge_instance ks m.T.schema j)
-  _ ← ensure (even m.S m.T m.F) 12
+  I ← at 4 (judge_instance m.S i)
+  J ← at 5 (judge_instance m.T j)
+  _ ← ensure (even (listed_category m.S) (listed_category m.T) m.F) 12
   accepted (record { m = m; run = I; book = J })
 
 -- 15 of either migrated table
 abbrev pub sized : Inputs → Outcome meaning.Sides
 sized y = do
-  P ← ensure_fits (sigma y.m.S y.m.T y.m.F y.run)
-  D ← ensure_fits (delta y.m.S.schema y.m.F y.book)
+  P ← ensure_fits (sigma (listed_category y.m.S) (listed_category y.m.T) y.m.F y.run)
+  D ← ensure_fits (delta y.m.S y.m.F y.book)
   accepted (record { m = y.m; run = y.run; book = y.book; pushed = P; pulled = D })
 
 -- both sides of accepted inputs
 abbrev pub sides_of : Inputs → meaning.Sides
-sides_of y = record { m = y.m; run = y.run; book = y.book; pushed = sigma y.m.S y.m.T y.m.F y.run; pulled = delta y.m.S.schema y.m.F y.book }
+sides_of y = record { m = y.m; run = y.run; book = y.book; pushed = sigma (listed_category y.m.S) (listed_category y.m.T) y.m.F y.run; pulled = delta y.m.S y.m.F y.book }
 
 -- ---- in working arrays: the run's links and values, and the book's
 
@@ -52,14 +52,13 @@ inputs_of x links values links' values' = record {
   book = tables_of x.opened.target x.book links' values';
 }
 
--- what the migrations of both rely on: run and book are accepted, by one list of kinds
+-- what the migrations of both rely on
 pub record Migratable (x : Sides) (links values links' values' : List ℕ) : Type 0 where
-  pub kinds : Kinds
   pub ready : Ready x.opened
   pub run_limits : Limits x.opened.source x.run
   pub book_limits : Limits x.opened.target x.book
-  pub run : Accepted kinds x.opened.source x.run links values
-  pub book : Accepted kinds x.opened.target x.book links' values'
+  pub run : Accepted x.opened.source x.run links values
+  pub book : Accepted x.opened.target x.book links' values'
   pub is-even : even (category_of x.opened.source) (category_of x.opened.target) (mapping_of x.opened.source x.opened.mapping) ≡ true
 
 pub record SidesSay (o : Opened) (x : Sides) (links values links' values' : List ℕ) (X : Outcome Inputs) : Type 0 where

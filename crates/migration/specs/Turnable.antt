@@ -3,10 +3,10 @@ use Rattle.std.specs.Prelude.{ℕ, ◌≡◌, List, []}
 use Rattle.theory.specs.Transposition.{to_raw, to_pushed}
 use Rattle.meaning.specs.Lists.{sum_of}
 use Rattle.meaning.specs.Formats as formats
-use Rattle.meaning.specs.Formats.{Kinds}
 use Rattle.meaning.specs.Views.{mapping_of, instance_of}
 use Rattle.meaning.specs.Sigma.{sigma}
 use Rattle.meaning.specs.Calls.{Outcome, accepted, ◌>>=◌, Migration}
+use Rattle.meaning.specs.Category.{listed_category}
 use Rattle.schema.specs.Decoded.{front_of}
 use Rattle.instance.specs.Decoded.{Limits}
 use Rattle.matching.specs.Compared.{partners_of}
@@ -28,9 +28,9 @@ abbrev pub turnable : Inputs → List ℕ → Turnable
 turnable y l = record { m = y.m; counts = y.run.counts; list = l }
 
 -- the tests of a side
-abbrev pub matched_side : Side → Kinds → Outcome Migration → List ℕ → List ℕ → List ℕ → Outcome Turnable
-matched_side side ks M i j k = do
-  y ← inputs ks M i j
+abbrev pub matched_side : Side → Outcome Migration → List ℕ → List ℕ → List ℕ → Outcome Turnable
+matched_side side M i j k = do
+  y ← inputs M i j
   l ← side_list side y k
   accepted (turnable y l)
 
@@ -39,12 +39,12 @@ abbrev pub run_of : Turnable → formats.Instance
 run_of z = record { counts = z.counts; links = []; values = [] }
 
 abbrev pub pushed_of : Turnable → formats.Instance
-pushed_of z = sigma z.m.S z.m.T z.m.F (run_of z)
+pushed_of z = sigma (listed_category z.m.S) (listed_category z.m.T) z.m.F (run_of z)
 
 -- a list turned to the other side
 abbrev pub turned_list : Side → Turnable → List ℕ
-turned_list side.Pushed z = to_raw (mapping_of z.m.S.schema z.m.T.schema z.m.F) (instance_of (run_of z)) (instance_of (pushed_of z)) z.list
-turned_list side.Raw z = to_pushed (mapping_of z.m.S.schema z.m.T.schema z.m.F) (instance_of (run_of z)) (instance_of (pushed_of z)) z.list
+turned_list side.Pushed z = to_raw (mapping_of z.m.S z.m.T z.m.F) (instance_of (run_of z)) (instance_of (pushed_of z)) z.list
+turned_list side.Raw z = to_pushed (mapping_of z.m.S z.m.T z.m.F) (instance_of (run_of z)) (instance_of (pushed_of z)) z.list
 
 -- ---- in working arrays
 

@@ -1,19 +1,14 @@
 // The checks of schemas, mappings, instances and matchings.
 ghost use Rattle.std.specs.Prelude.{◌≡◌, true};
-ghost use Rattle.meaning.specs.Formats as formats;
-ghost use Rattle.meaning.specs.SchemaKinds.{listed};
-ghost use Rattle.meaning.specs.OwnKinds.{builtIn};
 ghost use Rattle.meaning.specs.Calls.{check_schema, check_mapping, check_instance};
 ghost use Rattle.schema.specs.Decoded.{schema_of};
 ghost use Rattle.schema.specs.Judged.{Sound};
 ghost use Rattle.instance.specs.Decoded.{has_few_columns};
-ghost use Rattle.instance.specs.Ranges.{kinds_of};
-ghost use Rattle.migration.specs.Answers.{checked_sheet, verdict_of, side_checked, PushedChecked, RawChecked};
+ghost use Rattle.migration.specs.Answers.{checked_sheet, verdict_of, PushedChecked, RawChecked};
 ghost use Rattle.steps.specs.Answers.{outcome_of};
 
 use crate::Verdict;
 use crate::matchings::{Side, match_side};
-use instance::kinds::{Range, kinds};
 use instance::{Instance, has_few_columns, judge_instance};
 use mapping::judge_mapping;
 use paths::path_table;
@@ -32,7 +27,7 @@ fn verdict(refusal: Refusal) -> Verdict
 
 // Whether s is a schema. Refuses with 1 to 6.
 pub fn check_schema(s: &[u8]) -> Verdict
-    ensures { verdict_of result ≡ check_schema listed s.now }
+    ensures { verdict_of result ≡ check_schema s.now }
 {
     let schema = judge_schema(s);
     verdict(Refusal {
@@ -43,7 +38,7 @@ pub fn check_schema(s: &[u8]) -> Verdict
 
 // Whether f is a mapping from the schema s to the schema t. Refuses with 1 to 6 at the places of s and t, and with 1, 2, 7 and 8 at that of f.
 pub fn check_mapping(s: &[u8], t: &[u8], f: &[u8]) -> Verdict
-    ensures { verdict_of result ≡ check_mapping listed s.now t.now f.now }
+    ensures { verdict_of result ≡ check_mapping s.now t.now f.now }
 {
     let source = judge_schema(s);
     let target = judge_schema(t);
@@ -66,8 +61,7 @@ fn refusal_of_few(schema: Schema, i: &[u8]) -> Refusal
 {
     let mut links = [0u32; Instance::FEW_LINKS];
     let mut values = [0u32; Instance::FEW_VALUES];
-    let list = kinds();
-    let instance = judge_instance(schema, i, &list, &mut links, &mut values);
+    let instance = judge_instance(schema, i, &mut links, &mut values);
     Refusal {
         number: instance.fault,
         place: 2,
@@ -81,8 +75,7 @@ fn refusal_of_any(schema: Schema, i: &[u8]) -> Refusal
 {
     let mut links = [0u32; Instance::LINKS];
     let mut values = [0u32; Instance::VALUES];
-    let list = kinds();
-    let instance = judge_instance(schema, i, &list, &mut links, &mut values);
+    let instance = judge_instance(schema, i, &mut links, &mut values);
     Refusal {
         number: instance.fault,
         place: 2,
@@ -102,7 +95,7 @@ fn instance_refusal(schema: Schema, i: &[u8]) -> Refusal
 
 // Whether i is an instance of the schema s. Refuses with 1 to 6 at the place of s, and with 1, 2, 3, 9, 10 and 11 at that of i.
 pub fn check_instance(s: &[u8], i: &[u8]) -> Verdict
-    ensures { verdict_of result ≡ check_instance listed formats.kinds s.now i.now }
+    ensures { verdict_of result ≡ check_instance s.now i.now }
 {
     let schema = judge_schema(s);
     let first = Refusal {
@@ -113,38 +106,25 @@ pub fn check_instance(s: &[u8], i: &[u8]) -> Verdict
     verdict(first.or(second.number, second.place))
 }
 
-// Whether list is a matching of a side, by a list of kinds: what both forms of both checkers do.
-pub fn check_side(
-    side: Side,
-    kinds: [u32; Range::ENDS],
-    s: &[u8],
-    t: &[u8],
-    f: &[u8],
-    run: &[u8],
-    book: &[u8],
-    list: &[u8],
-) -> Verdict
-    ensures { verdict_of result ≡ side_checked (kinds_of kinds) s.now t.now f.now run.now book.now list.now side }
-{
-    let mut partners = [0u32; Instance::ROWS];
-    let matched = match_side(side, &kinds, s, t, f, run, book, list, &mut partners);
-    let refusal = matched.refusal;
-    verdict(refusal)
-}
-
 // Whether list is a matching of the pushed side: from Sigma of the instance run of s along the mapping f from s to t to the instance book of t.
 // Refuses as check_raw does.
 pub fn check_pushed(s: &[u8], t: &[u8], f: &[u8], run: &[u8], book: &[u8], list: &[u8]) -> Verdict
-    ensures { PushedChecked builtIn s.now t.now f.now run.now book.now list.now result }
+    ensures { PushedChecked s.now t.now f.now run.now book.now list.now result }
 {
-    check_side(Side::Pushed, kinds(), s, t, f, run, book, list)
+    let mut partners = [0u32; Instance::ROWS];
+    let matched = match_side(Side::Pushed, s, t, f, run, book, list, &mut partners);
+    let refusal = matched.refusal;
+    verdict(refusal)
 }
 
 // Whether list is a matching of the raw side: from the instance run of s to Delta of the instance book of t along the mapping f from s to t.
 // Refuses with 1 to 6 at the places of s and t, with 1, 2, 7 and 8 at that of f, with 1, 2, 3, 9, 10 and 11 at those of run and book, with 12 and
 // 15 at place 0, and with 1, 2 and 17 at that of list.
 pub fn check_raw(s: &[u8], t: &[u8], f: &[u8], run: &[u8], book: &[u8], list: &[u8]) -> Verdict
-    ensures { RawChecked builtIn s.now t.now f.now run.now book.now list.now result }
+    ensures { RawChecked s.now t.now f.now run.now book.now list.now result }
 {
-    check_side(Side::Raw, kinds(), s, t, f, run, book, list)
+    let mut partners = [0u32; Instance::ROWS];
+    let matched = match_side(Side::Raw, s, t, f, run, book, list, &mut partners);
+    let refusal = matched.refusal;
+    verdict(refusal)
 }

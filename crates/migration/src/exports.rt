@@ -1,8 +1,6 @@
 // The calls for C, a slice as its address and its length. An answer is one number: a result as itself (0 for an accepted check, a byte length,
 // which is 0 where there is no chain), a refusal as 2^32 + 256 * number + place.
 ghost use Rattle.std.specs.Prelude.{◌≡◌};
-ghost use Rattle.meaning.specs.Formats.{kinds};
-ghost use Rattle.meaning.specs.SchemaKinds.{listed};
 ghost use Rattle.meaning.specs.Calls.{refused, check_schema, check_mapping, check_instance, path_question, path_chain, delta_tables, sigma_tables, pi_tables, sheet_of, check_pushed, check_raw, pushed_to_raw, raw_to_pushed, in_tray};
 ghost use Rattle.migration.specs.Answers.{verdict_of, explained_of, encoded, checked, returned};
 ghost use Rattle.steps.specs.Answers.{written_of};
@@ -24,7 +22,7 @@ pub fn refusal_number(refusal: Refusal) -> u64
 }
 
 // A verdict as a number.
-pub fn verdict_number(verdict: Verdict) -> u64
+fn verdict_number(verdict: Verdict) -> u64
     ensures { result ≡ encoded (checked (verdict_of verdict)) }
 {
     match verdict {
@@ -56,21 +54,21 @@ pub fn written_number(written: Written) -> u64
 
 #[unsafe(no_mangle)]
 pub extern "C" fn migration_check_schema(s: &[u8]) -> u64
-    ensures { result ≡ encoded (checked (check_schema listed s.now)) }
+    ensures { result ≡ encoded (checked (check_schema s.now)) }
 {
     verdict_number(check_schema(s))
 }
 
 #[unsafe(no_mangle)]
 pub extern "C" fn migration_check_mapping(s: &[u8], t: &[u8], f: &[u8]) -> u64
-    ensures { result ≡ encoded (checked (check_mapping listed s.now t.now f.now)) }
+    ensures { result ≡ encoded (checked (check_mapping s.now t.now f.now)) }
 {
     verdict_number(check_mapping(s, t, f))
 }
 
 #[unsafe(no_mangle)]
 pub extern "C" fn migration_check_instance(s: &[u8], i: &[u8]) -> u64
-    ensures { result ≡ encoded (checked (check_instance listed kinds s.now i.now)) }
+    ensures { result ≡ encoded (checked (check_instance s.now i.now)) }
 {
     verdict_number(check_instance(s, i))
 }
@@ -91,21 +89,21 @@ pub extern "C" fn migration_path_chain(s: &[u8], p: &[u8], q: &[u8], tray: &mut 
 
 #[unsafe(no_mangle)]
 pub extern "C" fn migration_delta(s: &[u8], t: &[u8], f: &[u8], j: &[u8], tray: &mut [u8]) -> u64
-    ensures { (result, tray.new) ≡ returned (in_tray tray.old (sheet_of (delta_tables listed kinds s.now t.now f.now j.now))) }
+    ensures { (result, tray.new) ≡ returned (in_tray tray.old (sheet_of (delta_tables s.now t.now f.now j.now))) }
 {
     written_number(delta(s, t, f, j, &mut *tray))
 }
 
 #[unsafe(no_mangle)]
 pub extern "C" fn migration_sigma(s: &[u8], t: &[u8], f: &[u8], i: &[u8], tray: &mut [u8]) -> u64
-    ensures { (result, tray.new) ≡ returned (in_tray tray.old (sheet_of (sigma_tables listed kinds s.now t.now f.now i.now))) }
+    ensures { (result, tray.new) ≡ returned (in_tray tray.old (sheet_of (sigma_tables s.now t.now f.now i.now))) }
 {
     written_number(sigma(s, t, f, i, &mut *tray))
 }
 
 #[unsafe(no_mangle)]
 pub extern "C" fn migration_pi(s: &[u8], t: &[u8], f: &[u8], i: &[u8], tray: &mut [u8]) -> u64
-    ensures { (result, tray.new) ≡ returned (in_tray tray.old (sheet_of (pi_tables listed kinds s.now t.now f.now i.now))) }
+    ensures { (result, tray.new) ≡ returned (in_tray tray.old (sheet_of (pi_tables s.now t.now f.now i.now))) }
 {
     written_number(pi(s, t, f, i, &mut *tray))
 }
@@ -119,7 +117,7 @@ pub extern "C" fn migration_check_pushed(
     book: &[u8],
     list: &[u8],
 ) -> u64
-    ensures { result ≡ encoded (checked (check_pushed listed kinds s.now t.now f.now run.now book.now list.now)) }
+    ensures { result ≡ encoded (checked (check_pushed s.now t.now f.now run.now book.now list.now)) }
 {
     verdict_number(check_pushed(s, t, f, run, book, list))
 }
@@ -133,7 +131,7 @@ pub extern "C" fn migration_check_raw(
     book: &[u8],
     list: &[u8],
 ) -> u64
-    ensures { result ≡ encoded (checked (check_raw listed kinds s.now t.now f.now run.now book.now list.now)) }
+    ensures { result ≡ encoded (checked (check_raw s.now t.now f.now run.now book.now list.now)) }
 {
     verdict_number(check_raw(s, t, f, run, book, list))
 }
@@ -148,7 +146,7 @@ pub extern "C" fn migration_pushed_to_raw(
     list: &[u8],
     tray: &mut [u8],
 ) -> u64
-    ensures { (result, tray.new) ≡ returned (in_tray tray.old (pushed_to_raw listed kinds s.now t.now f.now run.now book.now list.now)) }
+    ensures { (result, tray.new) ≡ returned (in_tray tray.old (pushed_to_raw s.now t.now f.now run.now book.now list.now)) }
 {
     written_number(pushed_to_raw(s, t, f, run, book, list, &mut *tray))
 }
@@ -163,7 +161,7 @@ pub extern "C" fn migration_raw_to_pushed(
     list: &[u8],
     tray: &mut [u8],
 ) -> u64
-    ensures { (result, tray.new) ≡ returned (in_tray tray.old (raw_to_pushed listed kinds s.now t.now f.now run.now book.now list.now)) }
+    ensures { (result, tray.new) ≡ returned (in_tray tray.old (raw_to_pushed s.now t.now f.now run.now book.now list.now)) }
 {
     written_number(raw_to_pushed(s, t, f, run, book, list, &mut *tray))
 }

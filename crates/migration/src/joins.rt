@@ -1,18 +1,14 @@
 // Pi, of lent sheets into a lent tray: the families of a run are listed first, and its tables made of them after.
 ghost use Rattle.std.specs.Prelude.{◌≡◌, true, length};
-ghost use Rattle.meaning.specs.Formats as formats;
-ghost use Rattle.meaning.specs.SchemaKinds.{listed};
 ghost use Rattle.meaning.specs.Calls.{pi_tables, sheet_of, in_tray};
 ghost use Rattle.schema.specs.Judged.{Sound};
 ghost use Rattle.instance.specs.Decoded.{RoomFor, has_few_columns};
-ghost use Rattle.instance.specs.Ranges.{max_ends, kinds_of};
 ghost use Rattle.steps.specs.Answers.{lent_of, outcome_of};
 ghost use Rattle.migration.specs.Joins.{tested_joined, joined_of, ListedRun, Joins};
 ghost use Rattle.steps.specs.Migrated.{Migrates};
 ghost use Rattle.steps.specs.Opened.{opened_of, IsOpened};
 ghost use Rattle.steps.specs.Runs.{run_input};
 
-use instance::kinds::{Range, kinds};
 use instance::{Instance, has_few_columns, judge_instance};
 use pi::components::Components;
 use pi::families::{Listing, list_families};
@@ -52,17 +48,16 @@ fn unjoined(refusal: Refusal, run: Instance) -> Joined
 fn join_run(
     opened: Opened,
     i: &[u8],
-    kinds: &[u32],
     run_links: &mut [u32],
     run_values: &mut [u32],
     rows: &mut [u16],
 ) -> Joined
-    requires { IsOpened opened × RoomFor opened.source run_links.old run_values.old × (length rows.old ≡ 32768) × (length kinds.now ≡ max_ends) }
-    ensures { Joins opened result rows.new run_values.new (tested_joined (run_input (kinds_of kinds.now) (opened_of opened) i.now)) }
+    requires { IsOpened opened × RoomFor opened.source run_links.old run_values.old × (length rows.old ≡ 32768) }
+    ensures { Joins opened result rows.new run_values.new (tested_joined (run_input (opened_of opened) i.now)) }
 {
     let source = opened.source;
     let target = opened.target;
-    let run = judge_instance(source, i, kinds, &mut *run_links, &mut *run_values);
+    let run = judge_instance(source, i, &mut *run_links, &mut *run_values);
     let first = opened.refusal;
     let sheets = first.or(run.fault, 4);
     if sheets.number == 0 {
@@ -193,51 +188,37 @@ fn write_joined(
 }
 
 // Pi of a run, written, where S has few columns.
-fn pi_of_few(opened: Opened, i: &[u8], kinds: &[u32], tray: &mut [u8]) -> Written
-    requires { IsOpened opened × (has_few_columns opened.source ≡ true) × (length kinds.now ≡ max_ends) }
-    ensures { lent_of result tray.new ≡ in_tray tray.old (sheet_of (tested_joined (run_input (kinds_of kinds.now) (opened_of opened) i.now))) }
+fn pi_of_few(opened: Opened, i: &[u8], tray: &mut [u8]) -> Written
+    requires { IsOpened opened × (has_few_columns opened.source ≡ true) }
+    ensures { lent_of result tray.new ≡ in_tray tray.old (sheet_of (tested_joined (run_input (opened_of opened) i.now))) }
 {
     let mut run_links = [0u32; Instance::FEW_LINKS];
     let mut run_values = [0u32; Instance::FEW_VALUES];
     let mut rows = [0u16; Listing::NUMBERS];
-    let joined = join_run(opened, i, kinds, &mut run_links, &mut run_values, &mut rows);
+    let joined = join_run(opened, i, &mut run_links, &mut run_values, &mut rows);
     write_joined(opened, joined, &run_values, &rows, &mut *tray)
 }
 
 // The same for any S.
-fn pi_of_any(opened: Opened, i: &[u8], kinds: &[u32], tray: &mut [u8]) -> Written
-    requires { IsOpened opened × (length kinds.now ≡ max_ends) }
-    ensures { lent_of result tray.new ≡ in_tray tray.old (sheet_of (tested_joined (run_input (kinds_of kinds.now) (opened_of opened) i.now))) }
+fn pi_of_any(opened: Opened, i: &[u8], tray: &mut [u8]) -> Written
+    requires { IsOpened opened }
+    ensures { lent_of result tray.new ≡ in_tray tray.old (sheet_of (tested_joined (run_input (opened_of opened) i.now))) }
 {
     let mut run_links = [0u32; Instance::LINKS];
     let mut run_values = [0u32; Instance::VALUES];
     let mut rows = [0u16; Listing::NUMBERS];
-    let joined = join_run(opened, i, kinds, &mut run_links, &mut run_values, &mut rows);
+    let joined = join_run(opened, i, &mut run_links, &mut run_values, &mut rows);
     write_joined(opened, joined, &run_values, &rows, &mut *tray)
-}
-
-// Pi by a list of kinds: what both forms of the call do.
-pub fn pi_by(
-    kinds: [u32; Range::ENDS],
-    s: &[u8],
-    t: &[u8],
-    f: &[u8],
-    i: &[u8],
-    tray: &mut [u8],
-) -> Written
-    ensures { lent_of result tray.new ≡ in_tray tray.old (sheet_of (pi_tables listed (kinds_of kinds) s.now t.now f.now i.now)) }
-{
-    let opened = open(s, t, f);
-    if has_few_columns(opened.source) {
-        return pi_of_few(opened, i, &kinds, &mut *tray);
-    }
-    pi_of_any(opened, i, &kinds, &mut *tray)
 }
 
 // Pi: writes the instance of t that the mapping f from s to t makes of the instance i of s. Refuses with 1 to 6 at the places of s and t,
 // with 1, 2, 7 and 8 at that of f, with 1, 2, 3, 9, 10 and 11 at that of i, and with 13, 14, 15 and 16 at place 0.
 pub fn pi(s: &[u8], t: &[u8], f: &[u8], i: &[u8], tray: &mut [u8]) -> Written
-    ensures { lent_of result tray.new ≡ in_tray tray.old (sheet_of (pi_tables listed formats.kinds s.now t.now f.now i.now)) }
+    ensures { lent_of result tray.new ≡ in_tray tray.old (sheet_of (pi_tables s.now t.now f.now i.now)) }
 {
-    pi_by(kinds(), s, t, f, i, &mut *tray)
+    let opened = open(s, t, f);
+    if has_few_columns(opened.source) {
+        return pi_of_few(opened, i, &mut *tray);
+    }
+    pi_of_any(opened, i, &mut *tray)
 }

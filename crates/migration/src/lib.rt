@@ -1,15 +1,15 @@
 // Delta, Sigma, Pi and matchings on lent sheets. Every call takes sheets of any length and content, and answers with a result or with the
 // first refusal that applies.
-pub mod checks;
+mod checks;
 mod explain;
 pub mod exports;
 mod first;
-pub mod joins;
-pub mod matchings;
-pub mod migrate;
+mod joins;
+mod matchings;
+mod migrate;
 mod printing;
 mod sides;
-pub mod turnings;
+mod turnings;
 
 pub use checks::{check_instance, check_mapping, check_pushed, check_raw, check_schema};
 pub use explain::path_chain;

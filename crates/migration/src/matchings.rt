@@ -1,11 +1,9 @@
 // The tests of matchings: the judge of a matching sheet, and all tests of a checker or a turning before the tray.
 ghost use Rattle.std.specs.Prelude.{◌≡◌, true, ◌≤◌, length};
 ghost use Rattle.meaning.specs.Matching.{judge_matching};
-ghost use Rattle.meaning.specs.SchemaKinds.{listed};
 ghost use Rattle.meaning.specs.Calls.{migration};
 ghost use Rattle.schema.specs.Decoded.{schema_of};
 ghost use Rattle.instance.specs.Decoded.{tables_of};
-ghost use Rattle.instance.specs.Ranges.{max_ends, kinds_of};
 ghost use Rattle.matching.specs.Compared.{partners_of, Comparable};
 ghost use Rattle.steps.specs.Answers.{outcome_of};
 ghost use Rattle.steps.specs.Opened.{opened_of, have_few_columns, IsOpened};
@@ -211,7 +209,6 @@ fn match_in(
     i: &[u8],
     j: &[u8],
     k: &[u8],
-    kinds: &[u32],
     list: &mut [u32],
     run_links: &mut [u32],
     run_values: &mut [u32],
@@ -220,14 +217,13 @@ fn match_in(
     links: &mut [u32],
     values: &mut [u32],
 ) -> Sides
-    requires { IsOpened opened × Rooms opened run_links.old run_values.old book_links.old book_values.old links.old values.old × (512 ≤ length list.old) × (length kinds.now ≡ max_ends) }
-    ensures { Matches result list.new (matched_side side (kinds_of kinds.now) (opened_of opened) i.now j.now k.now) }
+    requires { IsOpened opened × Rooms opened run_links.old run_values.old book_links.old book_values.old links.old values.old × (512 ≤ length list.old) }
+    ensures { Matches result list.new (matched_side side (opened_of opened) i.now j.now k.now) }
 {
     let x = open_sides(
         opened,
         i,
         j,
-        kinds,
         &mut *run_links,
         &mut *run_values,
         &mut *book_links,
@@ -260,17 +256,9 @@ fn match_in(
 }
 
 // The same for schemas with few columns.
-fn match_few(
-    side: Side,
-    opened: Opened,
-    i: &[u8],
-    j: &[u8],
-    k: &[u8],
-    kinds: &[u32],
-    list: &mut [u32],
-) -> Sides
-    requires { IsOpened opened × (have_few_columns opened ≡ true) × (512 ≤ length list.old) × (length kinds.now ≡ max_ends) }
-    ensures { Matches result list.new (matched_side side (kinds_of kinds.now) (opened_of opened) i.now j.now k.now) }
+fn match_few(side: Side, opened: Opened, i: &[u8], j: &[u8], k: &[u8], list: &mut [u32]) -> Sides
+    requires { IsOpened opened × (have_few_columns opened ≡ true) × (512 ≤ length list.old) }
+    ensures { Matches result list.new (matched_side side (opened_of opened) i.now j.now k.now) }
 {
     let mut run_links = [0u32; Instance::FEW_LINKS];
     let mut run_values = [0u32; Instance::FEW_VALUES];
@@ -284,7 +272,6 @@ fn match_few(
         i,
         j,
         k,
-        kinds,
         &mut *list,
         &mut run_links,
         &mut run_values,
@@ -296,17 +283,9 @@ fn match_few(
 }
 
 // The same for any schemas.
-fn match_any(
-    side: Side,
-    opened: Opened,
-    i: &[u8],
-    j: &[u8],
-    k: &[u8],
-    kinds: &[u32],
-    list: &mut [u32],
-) -> Sides
-    requires { IsOpened opened × (512 ≤ length list.old) × (length kinds.now ≡ max_ends) }
-    ensures { Matches result list.new (matched_side side (kinds_of kinds.now) (opened_of opened) i.now j.now k.now) }
+fn match_any(side: Side, opened: Opened, i: &[u8], j: &[u8], k: &[u8], list: &mut [u32]) -> Sides
+    requires { IsOpened opened × (512 ≤ length list.old) }
+    ensures { Matches result list.new (matched_side side (opened_of opened) i.now j.now k.now) }
 {
     let mut run_links = [0u32; Instance::LINKS];
     let mut run_values = [0u32; Instance::VALUES];
@@ -320,7 +299,6 @@ fn match_any(
         i,
         j,
         k,
-        kinds,
         &mut *list,
         &mut run_links,
         &mut run_values,
@@ -331,10 +309,9 @@ fn match_any(
     )
 }
 
-// The tests of a side by a list of kinds, up to the matching sheet k; where they are passed, the partners stand in list.
+// The tests of a side, up to the matching sheet k; where they are passed, the partners stand in list.
 pub(crate) fn match_side(
     side: Side,
-    kinds: &[u32],
     s: &[u8],
     t: &[u8],
     f: &[u8],
@@ -343,12 +320,12 @@ pub(crate) fn match_side(
     k: &[u8],
     list: &mut [u32],
 ) -> Sides
-    requires { (512 ≤ length list.old) × (length kinds.now ≡ max_ends) }
-    ensures { Matches result list.new (matched_side side (kinds_of kinds.now) (migration listed s.now t.now f.now) i.now j.now k.now) }
+    requires { 512 ≤ length list.old }
+    ensures { Matches result list.new (matched_side side (migration s.now t.now f.now) i.now j.now k.now) }
 {
     let opened = open(s, t, f);
     if have_few_columns(opened) {
-        return match_few(side, opened, i, j, k, kinds, &mut *list);
+        return match_few(side, opened, i, j, k, &mut *list);
     }
-    match_any(side, opened, i, j, k, kinds, &mut *list)
+    match_any(side, opened, i, j, k, &mut *list)
 }

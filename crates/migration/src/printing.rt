@@ -1,6 +1,5 @@
 // The push program's work: from the bytes that it reads to the text that it prints.
 ghost use Rattle.std.specs.Prelude.{◌≡◌, true, ◌≤◌, length};
-ghost use Rattle.meaning.specs.Formats as formats;
 ghost use Rattle.meaning.specs.Program as program;
 ghost use Rattle.instance.specs.Decoded.{RoomFor};
 ghost use Rattle.text.specs.Written.{max_text_bytes};
@@ -10,7 +9,6 @@ ghost use Rattle.steps.specs.Runs.{run_input, evenly_pushed};
 
 use crate::migrate::sigma_tables;
 use instance::Instance;
-use instance::kinds::kinds;
 use steps::open::{Opened, have_few_columns, open};
 use steps::printing::print;
 use text::Text;
@@ -27,13 +25,11 @@ fn print_sigma(
     values: &mut [u32],
 ) -> usize
     requires { FromSheets opened × RoomFor opened.source run_links.old run_values.old × RoomFor opened.target links.old values.old × (max_text_bytes ≤ length out.old) }
-    ensures { (result, out.new) ≡ printed_into out.old (program.shown (evenly_pushed (run_input formats.kinds (opened_of opened) i.now))) }
+    ensures { (result, out.new) ≡ printed_into out.old (program.shown (evenly_pushed (run_input (opened_of opened) i.now))) }
 {
-    let list = kinds();
     let migrated = sigma_tables(
         opened,
         i,
-        &list,
         &mut *run_links,
         &mut *run_values,
         &mut *links,
@@ -46,7 +42,7 @@ fn print_sigma(
 // The same for schemas with few columns.
 fn print_few(opened: Opened, i: &[u8], out: &mut [u8]) -> usize
     requires { FromSheets opened × (have_few_columns opened ≡ true) × (max_text_bytes ≤ length out.old) }
-    ensures { (result, out.new) ≡ printed_into out.old (program.shown (evenly_pushed (run_input formats.kinds (opened_of opened) i.now))) }
+    ensures { (result, out.new) ≡ printed_into out.old (program.shown (evenly_pushed (run_input (opened_of opened) i.now))) }
 {
     let mut run_links = [0u32; Instance::FEW_LINKS];
     let mut run_values = [0u32; Instance::FEW_VALUES];
@@ -66,7 +62,7 @@ fn print_few(opened: Opened, i: &[u8], out: &mut [u8]) -> usize
 // The same for any schemas.
 fn print_any(opened: Opened, i: &[u8], out: &mut [u8]) -> usize
     requires { FromSheets opened × (max_text_bytes ≤ length out.old) }
-    ensures { (result, out.new) ≡ printed_into out.old (program.shown (evenly_pushed (run_input formats.kinds (opened_of opened) i.now))) }
+    ensures { (result, out.new) ≡ printed_into out.old (program.shown (evenly_pushed (run_input (opened_of opened) i.now))) }
 {
     let mut run_links = [0u32; Instance::LINKS];
     let mut run_values = [0u32; Instance::VALUES];

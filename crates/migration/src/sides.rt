@@ -1,7 +1,5 @@
 // The sheets of a mapping, a run and a book, which checkers and turnings open first.
-ghost use Rattle.std.specs.Prelude.{◌≡◌, length};
 ghost use Rattle.instance.specs.Decoded.{RoomFor};
-ghost use Rattle.instance.specs.Ranges.{max_ends, kinds_of};
 ghost use Rattle.steps.specs.Opened.{opened_of, IsOpened};
 ghost use Rattle.migration.specs.Sides.{inputs, SidesSay};
 
@@ -18,24 +16,23 @@ pub struct Sides {
     pub book: Instance,
 }
 
-// The sheets at places 4 and 5, judged by a list of kinds after those of S, T and the mapping, and the mapping's evenness.
+// The sheets at places 4 and 5, judged after those of S, T and the mapping, and the mapping's evenness.
 pub(crate) fn open_sides(
     opened: Opened,
     i: &[u8],
     j: &[u8],
-    kinds: &[u32],
     run_links: &mut [u32],
     run_values: &mut [u32],
     book_links: &mut [u32],
     book_values: &mut [u32],
 ) -> Sides
-    requires { IsOpened opened × RoomFor opened.source run_links.old run_values.old × RoomFor opened.target book_links.old book_values.old × (length kinds.now ≡ max_ends) }
-    ensures { SidesSay opened result run_links.new run_values.new book_links.new book_values.new (inputs (kinds_of kinds.now) (opened_of opened) i.now j.now) }
+    requires { IsOpened opened × RoomFor opened.source run_links.old run_values.old × RoomFor opened.target book_links.old book_values.old }
+    ensures { SidesSay opened result run_links.new run_values.new book_links.new book_values.new (inputs (opened_of opened) i.now j.now) }
 {
     let source = opened.source;
     let target = opened.target;
-    let run = judge_instance(source, i, kinds, &mut *run_links, &mut *run_values);
-    let book = judge_instance(target, j, kinds, &mut *book_links, &mut *book_values);
+    let run = judge_instance(source, i, &mut *run_links, &mut *run_values);
+    let book = judge_instance(target, j, &mut *book_links, &mut *book_values);
     let first = opened.refusal;
     let sheets = first.or(run.fault, 4).or(book.fault, 5);
     if sheets.number == 0 {

@@ -1,13 +1,11 @@
 // The turnings of matchings, of lent sheets into a lent tray.
 ghost use Rattle.std.specs.Prelude.{◌≡◌, ◌≤◌, length};
 ghost use Rattle.meaning.specs.Formats.{matching_sheet};
-ghost use Rattle.meaning.specs.OwnKinds.{builtIn};
 ghost use Rattle.meaning.specs.Calls.{written, in_tray};
 ghost use Rattle.schema.specs.Decoded.{front_of};
-ghost use Rattle.instance.specs.Ranges.{kinds_of};
 ghost use Rattle.matching.specs.Compared.{partners_of};
 ghost use Rattle.steps.specs.Answers.{outcome_of, lent_of};
-ghost use Rattle.migration.specs.Answers.{side_turned, TurnedToRaw, TurnedToPushed};
+ghost use Rattle.migration.specs.Answers.{TurnedToRaw, TurnedToPushed};
 ghost use Rattle.migration.specs.Turnable.{turnable_of, turned_list, ReadyToTurn};
 
 use crate::matchings::{Side, match_side};
@@ -15,7 +13,6 @@ use crate::sides::Sides;
 use encoding::matching::{matching_length, write_matching};
 use instance::Instance;
 use instance::decode::total;
-use instance::kinds::{Range, kinds};
 use matching::turning::{to_pushed, to_raw};
 use sigma::sigma_counts;
 use steps::{Refusal, Written};
@@ -68,25 +65,6 @@ fn write_turned(side: Side, x: Sides, list: [u32; Instance::ROWS], tray: &mut [u
     Written::Refused(refusal)
 }
 
-// Writes what a list of one side is turned into, by a list of kinds: what both forms of both turnings do.
-pub fn turn_side(
-    side: Side,
-    kinds: [u32; Range::ENDS],
-    s: &[u8],
-    t: &[u8],
-    f: &[u8],
-    run: &[u8],
-    book: &[u8],
-    list: &[u8],
-    tray: &mut [u8],
-) -> Written
-    ensures { lent_of result tray.new ≡ in_tray tray.old (side_turned (kinds_of kinds) s.now t.now f.now run.now book.now list.now side) }
-{
-    let mut partners = [0u32; Instance::ROWS];
-    let matched = match_side(side, &kinds, s, t, f, run, book, list, &mut partners);
-    write_turned(side, matched, partners, &mut *tray)
-}
-
 // From the pushed side to the raw side: writes the matching from the instance run of s to Delta of the instance book of t that corresponds to list.
 // Refuses as check_pushed does, and last with 16 at place 0.
 pub fn pushed_to_raw(
@@ -98,9 +76,11 @@ pub fn pushed_to_raw(
     list: &[u8],
     tray: &mut [u8],
 ) -> Written
-    ensures { TurnedToRaw builtIn s.now t.now f.now run.now book.now list.now tray.old (result, tray.new) }
+    ensures { TurnedToRaw s.now t.now f.now run.now book.now list.now tray.old (result, tray.new) }
 {
-    turn_side(Side::Pushed, kinds(), s, t, f, run, book, list, &mut *tray)
+    let mut partners = [0u32; Instance::ROWS];
+    let matched = match_side(Side::Pushed, s, t, f, run, book, list, &mut partners);
+    write_turned(Side::Pushed, matched, partners, &mut *tray)
 }
 
 // From the raw side to the pushed side: writes the matching from Sigma of the instance run of s to the instance book of t that corresponds to list.
@@ -114,7 +94,9 @@ pub fn raw_to_pushed(
     list: &[u8],
     tray: &mut [u8],
 ) -> Written
-    ensures { TurnedToPushed builtIn s.now t.now f.now run.now book.now list.now tray.old (result, tray.new) }
+    ensures { TurnedToPushed s.now t.now f.now run.now book.now list.now tray.old (result, tray.new) }
 {
-    turn_side(Side::Raw, kinds(), s, t, f, run, book, list, &mut *tray)
+    let mut partners = [0u32; Instance::ROWS];
+    let matched = match_side(Side::Raw, s, t, f, run, book, list, &mut partners);
+    write_turned(Side::Raw, matched, partners, &mut *tray)
 }

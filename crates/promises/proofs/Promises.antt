@@ -1,5 +1,4 @@
 -- Each promise of specs/Promises.antt, by the law that proves it.
-use mathlib.Core.Path.{refl}
 use lib.ListN.{length}
 use borrow.Author.Tests.{leb-true, le-leb}
 use Rattle.theory.proofs.Mapping.{image-chain}
@@ -8,22 +7,19 @@ use Rattle.theory.proofs.Pi.{pi_one}
 use Rattle.theory.proofs.Query.{query_one}
 use Rattle.meaning.specs.Schema.{all_paths}
 use Rattle.meaning.specs.Formats.{max_paths, kinds}
-use Rattle.meaning.proofs.Facts.{schema-facts, instance-shaped}
-use Rattle.meaning.proofs.KindsSheets.{kinds-sheet-length}
+use Rattle.meaning.proofs.Facts.{schema-facts, mapping-sized, instance-shaped}
 use Rattle.meaning.proofs.Examples.{vendor, operator, vendor_to_operator, run, book}
 use Rattle.agreement.proofs.Paths.{schema-iff, path-iff, paths-listed}
 use Rattle.agreement.proofs.Loops.{loop-iff, height-iff, height-one}
 use Rattle.agreement.proofs.Steps.{steps_agree}
 use Rattle.agreement.proofs.FirstChains.{chains_agree, first-chain-one}
-use Rattle.agreement.proofs.Categories.{equal-paths-iff, schema-well-formed, listed-category, listed_kind}
+use Rattle.agreement.proofs.Categories.{equal-paths-iff, schema-well-formed, listed-category}
 use Rattle.agreement.proofs.Mappings.{images-iff, keeps-iff}
-use Rattle.agreement.proofs.Ranges.{built_in, zero_in}
+use Rattle.agreement.proofs.Ranges.{zero_in}
 use Rattle.agreement.proofs.Instances.{links-iff, values-iff, equations-iff}
 use Rattle.agreement.proofs.Tests.{refused-iff, accepted-iff, refused-in}
-use Rattle.agreement.proofs.Refusals.{crowd-iff, listed-tests, off-scale-iff, kinds_decided}
-use Rattle.agreement.proofs.OwnKinds.{kinds-fit-iff, kinds-accepted-iff, kinds-refused-iff, built-in-sheet, second-form, second-refused, tray_moved}
-use Rattle.agreement.proofs.RangesAlike.{delta_second, sigma_second, pi_second, check-pushed-second, check-raw-second, pushed-to-raw-second, raw-to-pushed-second}
-use Rattle.agreement.proofs.Outcomes.{check_schema-decided, check_mapping-decided, check_instance-decided, path_question-answer, path_chain-answer, delta-answer, sigma-answer, pi-answer, query-answer, check_pushed-answer, check_raw-answer, pushed_to_raw-answer, raw_to_pushed-answer, refused-tray, accepted-tray}
+use Rattle.agreement.proofs.Refusals.{crowd-iff, off-scale-iff}
+use Rattle.agreement.proofs.Outcomes.{check_schema-decided, check_mapping-decided, check_instance-decided, path_question-answer, path_chain-answer, delta-answer, sigma-answer, pi-answer, query-answer, check_pushed-decided, check_raw-decided, pushed_to_raw-answer, raw_to_pushed-answer, refused-tray, accepted-tray}
 use Rattle.agreement.proofs.ChangeTests.{add_row-answer, withdraw_row-answer, refused-trays, accepted-trays, add_row_unread, withdraw_row_unread}
 use Rattle.agreement.proofs.Valid.{mapping-valid, instance-valid, instance-accepted-iff}
 use Rattle.agreement.proofs.Evenness.{even-iff}
@@ -46,32 +42,29 @@ use Rattle.agreement.proofs.ComposeCall.{compose-answer, composed, compose_agree
 use Rattle.agreement.proofs.Framing.{push_frames, dig_frames}
 use Rattle.migration.proofs.Demand3.{calls-demand3, calls_refuse, meanings_meet}
 use Rattle.migration.proofs.Encoding.{exports_say, results_within}
-use Rattle.promises.specs.Promises.{Demand1, Demand2, Demand-3, C11, C12, C14, C15, C16, C17, C18, Program, Header}
+use Rattle.promises.specs.Promises.{Demand1, Demand2, Demand-3, C11, C12, C14, C15, C16, C17, Program, Header}
 
 pub demand-1 : Demand1
 demand-1 = record {
   first-refusal = refused-iff;
   no_refusal = accepted-iff;
   listed_refusals = refused-in;
-  listed-tests = listed-tests;
   check-schema = check_schema-decided;
   check-mapping = check_mapping-decided;
   check-instance = check_instance-decided;
-  delta = delta-answer;
-  sigma = sigma-answer;
-  pi = pi-answer;
-  check-pushed = check_pushed-answer;
-  check-raw = check_raw-answer;
-  pushed-to-raw = pushed_to_raw-answer;
-  raw-to-pushed = raw_to_pushed-answer;
+  delta = λ s t f j tray. delta-answer tray s t f j;
+  sigma = λ s t f i tray. sigma-answer tray s t f i;
+  pi = λ s t f i tray. pi-answer tray s t f i;
+  check-pushed = check_pushed-decided;
+  check-raw = check_raw-decided;
+  pushed-to-raw = λ s t f i j k tray. pushed_to_raw-answer tray s t f i j k;
+  raw-to-pushed = λ s t f i j k tray. raw_to_pushed-answer tray s t f i j k;
   tray_kept = refused-tray;
   tray_result = accepted-tray;
 }
 
 pub demand-2 : Demand2
 demand-2 = record {
-  listed_kind = listed_kind;
-  built_in = built_in;
   schema_agrees = schema_agrees;
   test_4 = schema-iff;
   test_4_path = path-iff;
@@ -80,12 +73,12 @@ demand-2 = record {
   heights_one = height-one;
   test_6 = λ S wf. (paths-listed S wf, (leb-true (length (all_paths S.graph)) max_paths, le-leb (length (all_paths S.graph)) max_paths));
   refusal_6 = crowd-iff;
-  test_7 = λ k S T s t f {F} e. images-iff S T F s t (k.images S f e).nodes;
-  test_8 = λ k S T s t f {F} e. keeps-iff S T F s t (k.images S f e).nodes;
+  test_7 = λ S T s t f {F} e. images-iff S T F s t (mapping-sized S.schema f e);
+  test_8 = λ S T s t f {F} e. keeps-iff S T F s t (mapping-sized S.schema f e);
   mapping_accepted = mapping-valid;
   equal_images = λ v. image-chain v.is;
   test_9 = λ S i {I} e. links-iff kinds S I (instance-shaped S i e);
-  test_10 = λ ks S i {I} e. values-iff ks S I (instance-shaped S i e);
+  test_10 = λ S i {I} e. values-iff kinds S I (instance-shaped S i e);
   test_11 = λ S i {I} e. equations-iff kinds S I (instance-shaped S i e);
   instance_accepted = instance-accepted-iff;
   delta_agrees = delta_agrees;
@@ -157,11 +150,11 @@ c-16 = record {
   run_answers = run_answers;
   table_absent = table_absent;
   row-sheet = row-sheet-iff;
-  adds = λ s i {S} a b c. adds-table (schema-well-formed (schema-facts s a)) (instance-valid kinds S i b);
+  adds = λ s i {S} a b c. adds-table (schema-well-formed (schema-facts s a)) (instance-valid S i b);
   adds_one = adds_one;
-  row_tests = λ s i {S} a b c. row-tests-decide (schema-well-formed (schema-facts s a)) (instance-valid kinds S i b);
+  row_tests = λ s i {S} a b c. row-tests-decide (schema-well-formed (schema-facts s a)) (instance-valid S i b);
   addition_answers = addition_answers;
-  withdraws = λ s i {S} a b. withdraws-table (schema-well-formed (schema-facts s a)) (instance-valid kinds S i b);
+  withdraws = λ s i {S} a b. withdraws-table (schema-well-formed (schema-facts s a)) (instance-valid S i b);
   withdraws_one = withdraws_one;
   withdrawal_answers = withdrawal_answers;
   row_added = row_added;
@@ -181,33 +174,7 @@ c-17 = record {
   identity_accepted = identity_accepted;
   identity_first = compose-identity-first;
   identity_last = compose-identity-last;
-  sigma_isomorphic = λ w s t u f g i k e. sigma_isomorphic w s t u f g i k e;
-}
-
-pub c-18 : C18
-c-18 = record {
-  kinds_bytes = λ ks w. kinds-sheet-length ks w.all_kinds;
-  kinds_decided = kinds_decided;
-  kinds_accepted = kinds-accepted-iff;
-  test_20 = kinds-fit-iff;
-  refusal_20 = kinds-refused-iff;
-  kinds_first = second-refused;
-  kinds_given = second-form;
-  places_moved = λ n place. refl;
-  places_kept = λ n. refl;
-  refusals = λ k. refl;
-  tray_moved = tray_moved;
-  first_form = λ call. refl;
-  built-in-sheet = built-in-sheet;
-  delta_second = delta_second;
-  sigma_second = sigma_second;
-  pi_second = pi_second;
-  sides_second = λ K k judged s t f i j l run book. (
-    check-pushed-second K k judged s t f i j l run book,
-    check-raw-second K k judged s t f i j l run book,
-    pushed-to-raw-second K k judged s t f i j l run book,
-    raw-to-pushed-second K k judged s t f i j l run book,
-  );
+  sigma_isomorphic = λ s t u f g i k e. sigma_isomorphic s t u f g i k e;
 }
 
 pub program : Program

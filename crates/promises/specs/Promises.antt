@@ -1,12 +1,12 @@
 -- The promises of the three demands, of the requests of document 02, of the programs and of the C header, by demand and sentence; proofs/Promises.antt
 -- proves each under its name.
--- A call is said by its meaning, a function of lists of numbers (`meaning` specs/Calls.antt, OwnKinds.antt, Query.antt, Changes.antt, Composition.antt). That the code answers as the meaning does is each public
+-- A call is said by its meaning, a function of lists of numbers (`meaning` specs/Calls.antt, Query.antt, Changes.antt, Composition.antt). That the code answers as the meaning does is each public
 -- call's contract, one equation with no `requires` (`migration` src/checks.rt, first.rt, explain.rt, migrate.rt, joins.rt, turnings.rt, printing.rt and exports.rt;
--- `query` src/answer.rt, printing.rt and exports.rt; `changes` src/calls.rt and exports.rt; `compose` src/call.rt and exports.rt; `ranged` src/calls.rt and exports.rt). The other terms stand in the specs/ of `theory`
+-- `query` src/answer.rt, printing.rt and exports.rt; `changes` src/calls.rt and exports.rt; `compose` src/call.rt and exports.rt). The other terms stand in the specs/ of `theory`
 -- (source document 000), `meaning` (documents 01 and 02), `agreement` and `migration`.
 -- By definition alone, in `meaning` specs/: the fields of sheets, refusals 1, 2 and 3, the text of push and dig. The runs to check against: `meaning` proofs/Cases.antt.
-use Rattle.std.specs.Prelude.{ℕ, suc, ◌<◌, ◌≤◌, ◌≡◌, true, false, ◌↔◌, length, get_or, take}
-use mathlib.Core.List.{List, [], ◌∷◌, ◌++◌, Memᴰ}
+use Rattle.std.specs.Prelude.{ℕ, ◌<◌, ◌≤◌, ◌≡◌, true, false, ◌↔◌, length, get_or, take}
+use mathlib.Core.List.{List, Memᴰ}
 use Rattle.bits.specs.Field.{Bytes}
 use Rattle.theory.specs.Schema.{IsSchema, IsPath, Chain}
 use Rattle.theory.specs.Instance as theory
@@ -24,29 +24,25 @@ use Rattle.meaning.specs.Schema.{Path, path, Schema, is_path, all_paths, has_loo
 use Rattle.meaning.specs.PathChain.{Step}
 use Rattle.meaning.specs.Category.{Category, equal, listed_category}
 use Rattle.meaning.specs.Sheet.{faulty, sound, on_sheet}
-use Rattle.meaning.specs.Formats.{Mapping, Instance, read_instance, max_paths, max_rows, max_instance_bytes, max_mapping_bytes, Kinds, kinds, read_kinds, mapping_sheet, instance_sheet, matching_sheet, kinds_sheet}
+use Rattle.meaning.specs.Formats.{Mapping, Instance, read_mapping, read_instance, max_paths, max_rows, max_instance_bytes, max_mapping_bytes, kinds, mapping_sheet, instance_sheet, matching_sheet}
 use Rattle.meaning.specs.Views.{Shaped, schema_of, node_image, edge_image, mapping_of, count, instance_of}
-use Rattle.meaning.specs.Judge.{is_well_formed, has_few_paths, images_fit, keeps_equations, links_in_range, values_in_range, obeys_equations, judge_path, judge_schema, judge_instance, kinds_fit, judge_kinds}
-use Rattle.meaning.specs.SchemaKinds.{SchemaKind, listed, judge_mapping}
+use Rattle.meaning.specs.Judge.{is_well_formed, has_few_paths, images_fit, keeps_equations, links_in_range, values_in_range, obeys_equations, judge_path, judge_schema, judge_mapping, judge_instance}
 use Rattle.meaning.specs.Delta.{delta}
 use Rattle.meaning.specs.Evenness.{even}
 use Rattle.meaning.specs.Sigma.{sigma}
 use Rattle.meaning.specs.Pi.{is_bijective, pi}
 use Rattle.meaning.specs.Matching.{judge_matching}
-use Rattle.meaning.specs.Calls.{Outcome, refused, accepted, ◌>>=◌, ensure_fits, at, check_schema, check_mapping, check_instance, path_question, path_chain, Migrated, delta_tables, sigma_tables, pi_tables, sheet_of, sides, raw_sheet, pushed_sheet, in_tray}
-use Rattle.meaning.specs.OwnKinds.{moved, Form, builtIn, own, form_kinds, in_form, delta_in, sigma_in, pi_in, check_pushed_in, check_raw_in, pushed_to_raw_in, raw_to_pushed_in}
+use Rattle.meaning.specs.Calls.{Outcome, refused, accepted, ◌>>=◌, ensure_fits, check_schema, check_mapping, check_instance, path_question, path_chain, Migrated, delta_tables, sigma_tables, pi_tables, sheet_of, sides, raw_sheet, pushed_sheet, check_pushed, check_raw, pushed_to_raw, raw_to_pushed, in_tray}
 use Rattle.meaning.specs.Query.{Query, migrate_query, query_tables}
 use Rattle.meaning.specs.Rows.{read_row, added, withdrawn}
 use Rattle.meaning.specs.Changes.{Run, judge_run, addition, Sheets, addition_sheets, withdrawal_sheets, in_trays, add_row, withdraw_row}
 use Rattle.meaning.specs.Composition.{identity, Composable, compose}
 use Rattle.meaning.specs.Program.{frames, push, dig}
 use Rattle.agreement.specs.Paths.{WellFormed, SameStarts, Loop, IsHeight, EqualPaths, ListsPaths, Crowded}
-use Rattle.agreement.specs.Categories.{IsCategory, IsKind}
+use Rattle.agreement.specs.Categories.{IsCategory}
 use Rattle.agreement.specs.PathChains.{StepsAgree, ChainsAgree, IsFirstChain, ChainAnswers}
 use Rattle.agreement.specs.Tests.{Refusal, Tests, FailsAt, Pass, Decides}
-use Rattle.agreement.specs.SheetTests.{placed, schema_numbers, mapping_numbers, instance_numbers, matching_numbers, kinds_numbers, kinds_tests, KindTests, listed_tests, AreTests}
-use Rattle.agreement.specs.OwnKinds.{KindsFit, WellFormedKinds, JudgeAlike}
-use Rattle.agreement.specs.CallTests.{matching_refusals, form_refusals, form_tests, check_schema_tests, check_mapping_tests, check_instance_tests, path_question_tests, path_chain_tests, delta_tests, sigma_tests, pi_tests, query_tests, pushed_tests, raw_tests, addition_tests, withdrawal_tests, change_tests, compose_tests, tray_tests, sheet_tests, trays_tests, Result, Results}
+use Rattle.agreement.specs.CallTests.{check_schema_tests, check_mapping_tests, check_instance_tests, path_question_tests, path_chain_tests, delta_tests, sigma_tests, pi_tests, query_tests, pushed_tests, raw_tests, addition_tests, withdrawal_tests, change_tests, compose_tests, tray_tests, sheet_tests, trays_tests, Result, Results}
 use Rattle.agreement.specs.Valid.{ValidMapping, ValidInstance, InRange, ImagesFit, KeepsEquations, LinksIn, ValuesIn, OffScale, ObeysEquations}
 use Rattle.agreement.specs.Agrees.{SchemaAgrees, PathAnswer, PathAnswers, Inputs, DeltaAgrees, DeltaAnswers, SigmaAgrees, SigmaAnswers, PiAgrees, PiAnswers}
 use Rattle.agreement.specs.Query.{QueryInputs, QueryAgrees, QueryAnswers, cut_to_length, chained, SameResult}
@@ -66,26 +62,17 @@ pub record Demand1 : Type 1 where
       → (r : Refusal) → (o ≡ refused r.0 r.1) ↔ ((i : ℕ) × FailsAt t i × (get_or rs i (0, 0) ≡ r))
   pub no_refusal : {A : Type 0} {rs : List Refusal} {t : Tests A rs} {o : Outcome A} → Decides t o → (a : A) → (o ≡ accepted a) ↔ Pass t a
   pub listed_refusals : {A : Type 0} {rs : List Refusal} {t : Tests A rs} {o : Outcome A} → Decides t o → (r : Refusal) → o ≡ refused r.0 r.1 → Memᴰ r rs
-  -- and each call is decided by its tests, which stand in the order of document 01 (`agreement` specs/CallTests.antt): for every kind of schema whose sheets
-  -- are decided by tests, as those of document 01 are; the seven calls that judge values by a list of kinds in either form (C-18)
-  pub listed-tests : AreTests listed listed_tests
-  pub check-schema : {K : SchemaKind} {X : KindTests} → AreTests K X → (s : List ℕ) → Decides (check_schema_tests X s) (check_schema K s)
-  pub check-mapping : {K : SchemaKind} {X : KindTests} → AreTests K X → (s t f : List ℕ) → Decides (check_mapping_tests X s t f) (check_mapping K s t f)
-  pub check-instance : {K : SchemaKind} {X : KindTests} → AreTests K X → (ks : Kinds) (s i : List ℕ) → Decides (check_instance_tests X ks s i) (check_instance K ks s i)
-  pub delta : {K : SchemaKind} {X : KindTests} → AreTests K X → (form : Form) (s t f j tray : List ℕ)
-      → Decides (sheet_tests tray (form_tests form (λ ks. delta_tests X ks s t f j))) (in_tray tray (sheet_of (delta_in K form s t f j))).answer
-  pub sigma : {K : SchemaKind} {X : KindTests} → AreTests K X → (form : Form) (s t f i tray : List ℕ)
-      → Decides (sheet_tests tray (form_tests form (λ ks. sigma_tests X ks s t f i))) (in_tray tray (sheet_of (sigma_in K form s t f i))).answer
-  pub pi : {K : SchemaKind} {X : KindTests} → AreTests K X → (form : Form) (s t f i tray : List ℕ)
-      → Decides (sheet_tests tray (form_tests form (λ ks. pi_tests X ks s t f i))) (in_tray tray (sheet_of (pi_in K form s t f i))).answer
-  pub check-pushed : {K : SchemaKind} {X : KindTests} → AreTests K X → (form : Form) (s t f i j k : List ℕ)
-      → Decides (form_tests form (pushed_tests X s t f i j k (λ x l. tt))) (check_pushed_in K form s t f i j k)
-  pub check-raw : {K : SchemaKind} {X : KindTests} → AreTests K X → (form : Form) (s t f i j k : List ℕ)
-      → Decides (form_tests form (raw_tests X s t f i j k (λ x l. tt))) (check_raw_in K form s t f i j k)
-  pub pushed-to-raw : {K : SchemaKind} {X : KindTests} → AreTests K X → (form : Form) (s t f i j k tray : List ℕ)
-      → Decides (tray_tests tray (form_tests form (pushed_tests X s t f i j k raw_sheet))) (in_tray tray (pushed_to_raw_in K form s t f i j k)).answer
-  pub raw-to-pushed : {K : SchemaKind} {X : KindTests} → AreTests K X → (form : Form) (s t f i j k tray : List ℕ)
-      → Decides (tray_tests tray (form_tests form (raw_tests X s t f i j k pushed_sheet))) (in_tray tray (raw_to_pushed_in K form s t f i j k)).answer
+  -- and each call is decided by its tests, which stand in the order of document 01 (`agreement` specs/CallTests.antt)
+  pub check-schema : (s : List ℕ) → Decides (check_schema_tests s) (check_schema s)
+  pub check-mapping : (s t f : List ℕ) → Decides (check_mapping_tests s t f) (check_mapping s t f)
+  pub check-instance : (s i : List ℕ) → Decides (check_instance_tests s i) (check_instance s i)
+  pub delta : (s t f j tray : List ℕ) → Decides (sheet_tests tray (delta_tests s t f j)) (in_tray tray (sheet_of (delta_tables s t f j))).answer
+  pub sigma : (s t f i tray : List ℕ) → Decides (sheet_tests tray (sigma_tests s t f i)) (in_tray tray (sheet_of (sigma_tables s t f i))).answer
+  pub pi : (s t f i tray : List ℕ) → Decides (sheet_tests tray (pi_tests s t f i)) (in_tray tray (sheet_of (pi_tables s t f i))).answer
+  pub check-pushed : (s t f i j k : List ℕ) → Decides (pushed_tests s t f i j k (λ x l. tt)) (check_pushed s t f i j k)
+  pub check-raw : (s t f i j k : List ℕ) → Decides (raw_tests s t f i j k (λ x l. tt)) (check_raw s t f i j k)
+  pub pushed-to-raw : (s t f i j k tray : List ℕ) → Decides (tray_tests tray (pushed_tests s t f i j k raw_sheet)) (in_tray tray (pushed_to_raw s t f i j k)).answer
+  pub raw-to-pushed : (s t f i j k tray : List ℕ) → Decides (tray_tests tray (raw_tests s t f i j k pushed_sheet)) (in_tray tray (raw_to_pushed s t f i j k)).answer
   -- "a refused call changes no lent byte": no byte of the tray; sheets are lent to be read only
   pub tray_kept : (tray : List ℕ) (o : Outcome (List ℕ)) {n place : ℕ} → (in_tray tray o).answer ≡ refused n place → (in_tray tray o).tray ≡ tray
   -- "An accepted result gives its byte length; bytes beyond it keep their values"
@@ -94,10 +81,6 @@ pub record Demand1 : Type 1 where
 -- ---- Demand 2
 
 pub record Demand2 : Type 1 where
-  -- what follows holds for every kind of schema whose accepted sheets present a category and whose mapping sheets give every image (C-14), and for every
-  -- well-formed list of kinds (C-18): those of document 01 are such
-  pub listed_kind : IsKind listed
-  pub built_in : WellFormedKinds kinds
   -- "Path equality": of an accepted schema, with first paths and heights; the answers of the path question are those of C-14
   pub schema_agrees : (s : List ℕ) {S : Schema} → judge_schema s ≡ sound S → SchemaAgrees S
   -- "the check of schemas": 4 is passed exactly by the theory's schemas whose equations have one start on both sides, and by the theory's paths
@@ -112,25 +95,24 @@ pub record Demand2 : Type 1 where
   pub refusal_6 : (s : List ℕ) → (judge_schema s ≡ faulty 6) ↔ ((S : Schema) × Crowded s S)
   -- the check of "mappings": 7, then 8, of a sheet that reads as F; one that passes respects all path equalities, and not the equations alone.
   -- This and what follows from it holds in any category; that each well-formed schema without a loop presents one is `presented` of C-14
-  pub test_7 : {K : SchemaKind} → IsKind K → (S T : Category) → IsCategory S → IsCategory T → (f : List ℕ) {F : Mapping} → on_sheet (K.read_mapping S.schema) f ≡ sound F
+  pub test_7 : (S T : Category) → IsCategory S → IsCategory T → (f : List ℕ) {F : Mapping} → on_sheet (read_mapping S.schema) f ≡ sound F
       → (images_fit S.schema T.schema F ≡ true) ↔ ImagesFit (mapping_of S.schema T.schema F)
-  pub test_8 : {K : SchemaKind} → IsKind K → (S T : Category) → IsCategory S → IsCategory T → (f : List ℕ) {F : Mapping} → on_sheet (K.read_mapping S.schema) f ≡ sound F
+  pub test_8 : (S T : Category) → IsCategory S → IsCategory T → (f : List ℕ) {F : Mapping} → on_sheet (read_mapping S.schema) f ≡ sound F
       → images_fit S.schema T.schema F ≡ true → (keeps_equations S T F ≡ true) ↔ KeepsEquations (mapping_of S.schema T.schema F)
-  pub mapping_accepted : {K : SchemaKind} → IsKind K → (s t f : List ℕ) {S T : Category} {F : Mapping} → K.judge_category s ≡ sound S → K.judge_category t ≡ sound T
-      → judge_mapping K S T f ≡ sound F → ValidMapping S T F
+  pub mapping_accepted : (s t f : List ℕ) {S T : Schema} {F : Mapping} → judge_schema s ≡ sound S → judge_schema t ≡ sound T → judge_mapping (listed_category S) (listed_category T) f ≡ sound F
+      → ValidMapping (listed_category S) (listed_category T) F
   pub equal_images : {S T : Category} {F : Mapping} → ValidMapping S T F → (n : ℕ) {p q : List ℕ} → Chain (schema_of S.schema) n p q → IsPath (schema_of S.schema) n p
       → Chain (schema_of T.schema) (node_image F n) (theory_mapping.image (edge_image F) p) (theory_mapping.image (edge_image F) q)
   -- the check of "tables": 9, 10 and 11, of a sheet that reads as I; accepted are exactly the whole sheets of valid instances
   pub test_9 : (S : Schema) (i : List ℕ) {I : Instance} → on_sheet (read_instance S) i ≡ sound I → (links_in_range S I ≡ true) ↔ LinksIn (schema_of S) (instance_of I)
-  pub test_10 : (ks : Kinds) (S : Schema) (i : List ℕ) {I : Instance} → on_sheet (read_instance S) i ≡ sound I → (values_in_range ks S I ≡ true) ↔ ValuesIn ks (schema_of S) (instance_of I)
+  pub test_10 : (S : Schema) (i : List ℕ) {I : Instance} → on_sheet (read_instance S) i ≡ sound I → (values_in_range kinds S I ≡ true) ↔ ValuesIn kinds (schema_of S) (instance_of I)
   pub test_11 : (S : Schema) (i : List ℕ) {I : Instance} → on_sheet (read_instance S) i ≡ sound I → (obeys_equations S I ≡ true) ↔ ObeysEquations (schema_of S) (instance_of I)
-  pub instance_accepted : {ks : Kinds} → WellFormedKinds ks → (S : Schema) (i : List ℕ) → Bytes i
-      → ((I : Instance) × (judge_instance ks S i ≡ sound I)) ↔ ((I : Instance) × ValidInstance ks S I × (i ≡ instance_sheet I))
+  pub instance_accepted : (S : Schema) (i : List ℕ) → Bytes i → ((I : Instance) × (judge_instance S i ≡ sound I)) ↔ ((I : Instance) × ValidInstance S I × (i ≡ instance_sheet I))
   -- "the migrated tables of Delta, Sigma and Pi" are the theory's, valid, and are read back from their own sheets; "every migrated table obeys all
   -- path equations of its schema"
-  pub delta_agrees : {K : SchemaKind} → IsKind K → {ks : Kinds} → WellFormedKinds ks → (s t f j : List ℕ) {M : Migrated} → delta_tables K ks s t f j ≡ accepted M → DeltaAgrees K ks s t f j M
-  pub sigma_agrees : {K : SchemaKind} → IsKind K → {ks : Kinds} → WellFormedKinds ks → (s t f i : List ℕ) {M : Migrated} → sigma_tables K ks s t f i ≡ accepted M → SigmaAgrees K ks s t f i M
-  pub pi_agrees : {K : SchemaKind} → IsKind K → {ks : Kinds} → WellFormedKinds ks → (s t f i : List ℕ) {M : Migrated} → pi_tables K ks s t f i ≡ accepted M → PiAgrees K ks s t f i M
+  pub delta_agrees : (s t f j : List ℕ) {M : Migrated} → delta_tables s t f j ≡ accepted M → DeltaAgrees s t f j M
+  pub sigma_agrees : (s t f i : List ℕ) {M : Migrated} → sigma_tables s t f i ≡ accepted M → SigmaAgrees s t f i M
+  pub pi_agrees : (s t f i : List ℕ) {M : Migrated} → pi_tables s t f i ≡ accepted M → PiAgrees s t f i M
   -- no other tables are Sigma's or Pi's
   pub sigma_one : {F : theory_mapping.Mapping} → IsMapping F → Even F → {I P Q : theory.Instance ℕ} → IsSigma F I P → IsSigma F I Q → Alike F.T P Q
   pub pi_one : {F : theory_mapping.Mapping} {I P Q : theory.Instance ℕ} → IsMapping F → Bijective F → IsPi F I P → IsPi F I Q → Alike F.T P Q
@@ -140,16 +122,13 @@ pub record Demand2 : Type 1 where
   pub pi_single : {S T : Category} {F : Mapping} → ValidMapping S T F → (I : Instance) (d : ℕ) → d < T.schema.graph.nodes
       → ((k : ℕ × List ℕ) → IsComponent (mapping_of S.schema T.schema F) d k → ⊥) → count (pi S T F I) d ≡ 1
   -- "nothing is refused outside the listed conditions": on accepted sheets, 15 of Delta, 12 of Sigma, 13, 14 and 15 of Pi
-  pub delta_answers : {K : SchemaKind} → IsKind K → (ks : Kinds) (s t f j : List ℕ) {S T : Category} {F : Mapping} {J : Instance} → Inputs K ks s t f j S T T F J
-      → DeltaAnswers K ks s t f j (mapping_of S.schema T.schema F) (instance_of J)
-  pub sigma_answers : {K : SchemaKind} → IsKind K → (ks : Kinds) (s t f i : List ℕ) {S T : Category} {F : Mapping} {I : Instance} → Inputs K ks s t f i S T S F I
-      → SigmaAnswers K ks s t f i (mapping_of S.schema T.schema F)
-  pub pi_answers : {K : SchemaKind} → IsKind K → (ks : Kinds) (s t f i : List ℕ) {S T : Category} {F : Mapping} {I : Instance} → Inputs K ks s t f i S T S F I
-      → PiAnswers K ks s t f i (mapping_of S.schema T.schema F) (instance_of I)
+  pub delta_answers : (s t f j : List ℕ) {S T : Schema} {F : Mapping} {J : Instance} → Inputs s t f j S T T F J → DeltaAnswers s t f j (mapping_of S T F) (instance_of J)
+  pub sigma_answers : (s t f i : List ℕ) {S T : Schema} {F : Mapping} {I : Instance} → Inputs s t f i S T S F I → SigmaAnswers s t f i (mapping_of S T F)
+  pub pi_answers : (s t f i : List ℕ) {S T : Schema} {F : Mapping} {I : Instance} → Inputs s t f i S T S F I → PiAnswers s t f i (mapping_of S T F) (instance_of I)
   -- the tests 12 and 13 by themselves, and that Sigma is never overfull, in the matching calls too
   pub test_12 : {S T : Category} {F : Mapping} → ValidMapping S T F → (even S T F ≡ true) ↔ Even (mapping_of S.schema T.schema F)
   pub test_13 : {S T : Category} {F : Mapping} → ValidMapping S T F → (is_bijective T.schema F ≡ true) ↔ Bijective (mapping_of S.schema T.schema F)
-  pub sigma_fits : {S T : Category} {F : Mapping} → ValidMapping S T F → Even (mapping_of S.schema T.schema F) → {ks : Kinds} {I : Instance} → ValidInstance ks S.schema I
+  pub sigma_fits : {S T : Category} {F : Mapping} → ValidMapping S T F → Even (mapping_of S.schema T.schema F) → {I : Instance} → ValidInstance S.schema I
       → ensure_fits (sigma S T F I) ≡ accepted (sigma S T F I)
   -- 17: "a list is a matching if it is the whole sheet of one"
   pub test_17 : (S : Schema) (A B : Instance) → Shaped S A → sum_of B.counts ≤ max_rows → (k : List ℕ) → Bytes k
@@ -161,21 +140,16 @@ pub record Demand-3 : Type 1 where
   -- "each checker accepts a list exactly when it is a matching of its side; each turning takes exactly the matchings of the side it starts from and
   -- turns each into one matching of the other side; each matching there comes from exactly one here; turning the result back gives the first list
   -- again, byte for byte; and each raw row meets the same book row on both sides": one clause each (`agreement` specs/Demand3.antt), under the provisos
-  -- and for the calls in either form that judges by the list of kinds
-  pub of_meanings : {K : SchemaKind} → IsKind K → {ks : Kinds} {s t f i j : List ℕ} (x : Provided K ks s t f i j) (form : Form) → form_kinds form ≡ sound ks
-      → Clauses x (meaning_answers K form s t f i j)
+  pub of_meanings : {s t f i j : List ℕ} (x : Provided s t f i j) → Clauses x (meaning_answers s t f i j)
   -- the provisos hold exactly where the tests before the matching sheet are passed; they can be met; where one fails all four calls refuse
-  pub provisos : {K : SchemaKind} → IsKind K → (s t f i j : List ℕ) (ks : Kinds) → Provided K ks s t f i j ↔ Accepts (sides K ks s t f i j)
-  pub provisos_met : (s : List ℕ) × (t : List ℕ) × (f : List ℕ) × (i : List ℕ) × (j : List ℕ) × Provided listed kinds s t f i j
-  pub otherwise_refused : {K : SchemaKind} → IsKind K → (s t f i j : List ℕ) (form : Form) → ((ks : Kinds) → form_kinds form ≡ sound ks → Provided K ks s t f i j → ⊥)
-      → AllRefuse (meaning_answers K form s t f i j)
+  pub provisos : (s t f i j : List ℕ) → Provided s t f i j ↔ Accepts (sides s t f i j)
+  pub provisos_met : (s : List ℕ) × (t : List ℕ) × (f : List ℕ) × (i : List ℕ) × (j : List ℕ) × Provided s t f i j
+  pub otherwise_refused : (s t f i j : List ℕ) → (Provided s t f i j → ⊥) → AllRefuse (meaning_answers s t f i j)
   -- the same of the public calls: of whatever meets their contracts, asked of all lists of numbers; of those that are no bytes, which nobody can
   -- lend, take the answers of the meanings, which meet the contracts too
-  pub of_calls : {form : Form} {c : Calls} → MeetsContracts form c → {ks : Kinds} → form_kinds form ≡ sound ks → {s t f i j : List ℕ} (x : Provided listed ks s t f i j)
-      → Clauses x (answers c s t f i j)
-  pub calls_refuse : {form : Form} {c : Calls} → MeetsContracts form c → (s t f i j : List ℕ) → ((ks : Kinds) → form_kinds form ≡ sound ks → Provided listed ks s t f i j → ⊥)
-      → AllRefuse (answers c s t f i j)
-  pub meanings_meet : (form : Form) → MeetsContracts form (meaning_calls form)
+  pub of_calls : {c : Calls} → MeetsContracts c → {s t f i j : List ℕ} (x : Provided s t f i j) → Clauses x (answers c s t f i j)
+  pub calls_refuse : {c : Calls} → MeetsContracts c → (s t f i j : List ℕ) → (Provided s t f i j → ⊥) → AllRefuse (answers c s t f i j)
+  pub meanings_meet : MeetsContracts meaning_calls
 
 -- ---- Document 02, C-11: which rules made these paths equal
 
@@ -203,7 +177,7 @@ pub record C12 : Type 0 where
   pub others_have_zero : (k : ℕ) → (k ≡ 2 → ⊥) → InRange kinds k 0
   -- "A kind now has a smallest value as well as a largest, and 10 is given below the one or above the other": exactly then, of a sheet that reads as
   -- an instance and passes 9
-  pub refusal_10 : (ks : Kinds) (S : Schema) (i : List ℕ) → (judge_instance ks S i ≡ faulty 10) ↔ ((I : Instance) × OffScale ks S i I)
+  pub refusal_10 : (S : Schema) (i : List ℕ) → (judge_instance S i ≡ faulty 10) ↔ ((I : Instance) × OffScale S i I)
 
 -- ---- Document 02, C-14: the first path of a class
 
@@ -239,11 +213,11 @@ pub record C15 : Type 1 where
       → QueryAnswers s1 s2 s3 s4 f g h i q (instance_of I)
   -- 15 of Sigma's never arises: with its test left out the migrations give the same
   pub sigma_fits : {s1 s2 s3 s4 f g h i : List ℕ} {q : Query} {I : Instance} → QueryInputs s1 s2 s3 s4 f g h i q I
-      → is_bijective q.S3.schema q.G ≡ true → even q.S3 q.S4 q.H ≡ true
+      → is_bijective q.S3 q.G ≡ true → even (listed_category q.S3) (listed_category q.S4) q.H ≡ true
       → migrate_query q I ≡ (do
-        D ← ensure_fits (delta q.S2.schema q.F I)
-        P ← ensure_fits (pi q.S2 q.S3 q.G D)
-        accepted (record { schema = q.S4.schema; tables = sigma q.S3 q.S4 q.H P }))
+        D ← ensure_fits (delta q.S2 q.F I)
+        P ← ensure_fits (pi (listed_category q.S2) (listed_category q.S3) q.G D)
+        accepted (record { schema = q.S4; tables = sigma (listed_category q.S3) (listed_category q.S4) q.H P }))
   -- "What it prints is the three definitions applied one after the other": lent the same tray as the last, the call accepts exactly where the three public
   -- calls do, chained through results cut to their length (the first two trays of the header's instance bytes), and writes the same bytes; which refusal
   -- is given may differ
@@ -271,33 +245,33 @@ pub record C16 : Type 0 where
   pub withdraw_row_unread : (s t f run : List ℕ) (n c r : ℕ) (p q : List ℕ) → length p ≡ length q
       → ((withdraw_row s t f run n c r p).answer ≡ (withdraw_row s t f run n c r q).answer) × ((withdraw_row s t f run n c r p).run ≡ (withdraw_row s t f run n c r q).run)
   -- on accepted sheets 12 is given exactly where the mapping is not even
-  pub run_answers : (s t f i : List ℕ) {S T : Category} {F : Mapping} {I : Instance} → Inputs listed kinds s t f i S T S F I → RunAnswers s t f i S T F I
+  pub run_answers : (s t f i : List ℕ) {S T : Schema} {F : Mapping} {I : Instance} → Inputs s t f i S T S F I → RunAnswers s t f i S T F I
   -- "18, absent, the named table or row does not exist"
-  pub table_absent : (x : Run) (c : ℕ) (row : List ℕ) → (addition x.m.S.schema x.tables c row ≡ refused 18 0) ↔ (c < x.m.S.schema.graph.nodes → ⊥)
+  pub table_absent : (x : Run) (c : ℕ) (row : List ℕ) → (addition x.m.S x.tables c row ≡ refused 18 0) ↔ (c < x.m.S.graph.nodes → ⊥)
   -- "an added row as a sheet (links 9 bits, then values)"
   pub row-sheet : (S : Schema) → WellFormed S → (c : ℕ) → c < S.graph.nodes → (row : List ℕ) → Bytes row → (R : Instance)
       → (on_sheet (read_row S c) row ≡ sound R) ↔ (IsRow S c R × (row ≡ row_sheet S c R))
   -- "Adding puts a row at its table's end with its links and values"; no other tables are I with the row added
-  pub adds : (s i : List ℕ) {S : Schema} {I : Instance} → judge_schema s ≡ sound S → judge_instance kinds S i ≡ sound I → (c : ℕ) → c < S.graph.nodes
+  pub adds : (s i : List ℕ) {S : Schema} {I : Instance} → judge_schema s ≡ sound S → judge_instance S i ≡ sound I → (c : ℕ) → c < S.graph.nodes
       → {R : Instance} → IsRow S c R → Adds S I c R (added S I R)
   pub adds_one : {S : Schema} → WellFormed S → (I : Instance) (c : ℕ) (R : Instance) {J K : Instance} → Adds S I c R J → Adds S I c R K → J ≡ K
   -- the tests 9, 10 and 11 are those of the new row, and no other row can fail them; with 15 they are given exactly where the changed tables would be no
   -- accepted instance of S
-  pub row_tests : (s i : List ℕ) {S : Schema} {I : Instance} → judge_schema s ≡ sound S → judge_instance kinds S i ≡ sound I → (c : ℕ) → c < S.graph.nodes
+  pub row_tests : (s i : List ℕ) {S : Schema} {I : Instance} → judge_schema s ≡ sound S → judge_instance S i ≡ sound I → (c : ℕ) → c < S.graph.nodes
       → {R : Instance} → IsRow S c R → RowTestsDecide S I c R
-  pub addition_answers : (s t f i : List ℕ) {x : Run} → judge_run s t f i ≡ accepted x → (c : ℕ) → c < x.m.S.schema.graph.nodes
-      → (row : List ℕ) {R : Instance} → on_sheet (read_row x.m.S.schema c) row ≡ sound R → AdditionAnswers x c row (added x.m.S.schema x.tables R)
+  pub addition_answers : (s t f i : List ℕ) {x : Run} → judge_run s t f i ≡ accepted x → (c : ℕ) → c < x.m.S.graph.nodes
+      → (row : List ℕ) {R : Instance} → on_sheet (read_row x.m.S c) row ≡ sound R → AdditionAnswers x c row (added x.m.S x.tables R)
   -- "withdrawing takes a row out and moves later rows of that table down by one, links included"; no other tables are I without the row
-  pub withdraws : (s i : List ℕ) {S : Schema} {I : Instance} → judge_schema s ≡ sound S → judge_instance kinds S i ≡ sound I → (c x : ℕ) → c < S.graph.nodes → x < count I c
+  pub withdraws : (s i : List ℕ) {S : Schema} {I : Instance} → judge_schema s ≡ sound S → judge_instance S i ≡ sound I → (c x : ℕ) → c < S.graph.nodes → x < count I c
       → (Held S I c x → ⊥) → Withdraws S I c x (withdrawn S I c x)
   pub withdraws_one : {S : Schema} → WellFormed S → (I : Instance) (c x : ℕ) {J K : Instance} → Withdraws S I c x J → Withdraws S I c x K → J ≡ K
   -- "the named table or row does not exist"; "a row to be withdrawn that another row links to"; and no withdrawal is refused beyond these and 16
   pub withdrawal_answers : (s t f i : List ℕ) {x : Run} → judge_run s t f i ≡ accepted x → (c r : ℕ) → WithdrawalAnswers x c r
   -- "After each accepted change the pushed sheet equals a fresh Sigma of the changed run, and matchings are compared for the run as it then is"
   pub row_added : (s t f i : List ℕ) (c : ℕ) (row : List ℕ) {w : Sheets} → addition_sheets s t f i c row ≡ accepted w
-      → (x : ChangeAgrees s t f i w) × (R : Instance) × (c < x.S.schema.graph.nodes) × (on_sheet (read_row x.S.schema c) row ≡ sound R) × Adds x.S.schema x.before c R x.after
+      → (x : ChangeAgrees s t f i w) × (R : Instance) × (c < x.S.graph.nodes) × (on_sheet (read_row x.S c) row ≡ sound R) × Adds x.S x.before c R x.after
   pub row_withdrawn : (s t f i : List ℕ) (c r : ℕ) {w : Sheets} → withdrawal_sheets s t f i c r ≡ accepted w
-      → (x : ChangeAgrees s t f i w) × (c < x.S.schema.graph.nodes) × (r < count x.before c) × (Held x.S.schema x.before c r → ⊥) × Withdraws x.S.schema x.before c r x.after
+      → (x : ChangeAgrees s t f i w) × (c < x.S.graph.nodes) × (r < count x.before c) × (Held x.S x.before c r → ⊥) × Withdraws x.S x.before c r x.after
   -- withdrawing the row just added gives the first run's sheet and length back, byte for byte
   pub gives_back : (s t f run : List ℕ) (n c : ℕ) (row pushed : List ℕ) → Bytes run → {a b : ℕ} → (add_row s t f run n c row pushed).answer ≡ accepted (a, b)
       → GivesBack s t f run n c row pushed a
@@ -313,69 +287,29 @@ pub record C17 : Type 0 where
   -- from S to U, even where F and G are; Delta along it is Delta along G and then F
   pub compose_agrees : (s t u f g : List ℕ) {h : List ℕ} → compose s t u f g ≡ accepted h → ComposeAgrees s t u f g h
   -- no other sheet has these images; and the header's bytes hold every mapping sheet
-  pub mapping_one : (S T : Category) {F G : Mapping} (f g : List ℕ) → Bytes f → Bytes g → judge_mapping listed S T f ≡ sound F
-      → judge_mapping listed S T g ≡ sound G → SameImages (mapping_of S.schema T.schema F) (mapping_of S.schema T.schema G) → f ≡ g
-  pub mapping_within : (s t f : List ℕ) {S T : Category} {F : Mapping} → Bytes f → listed.judge_category s ≡ sound S → listed.judge_category t ≡ sound T
-      → judge_mapping listed S T f ≡ sound F → length f ≤ max_mapping_bytes
+  pub mapping_one : {S T : Schema} {F G : Mapping} (f g : List ℕ) → Bytes f → Bytes g → judge_mapping (listed_category S) (listed_category T) f ≡ sound F
+      → judge_mapping (listed_category S) (listed_category T) g ≡ sound G → SameImages (mapping_of S T F) (mapping_of S T G) → f ≡ g
+  pub mapping_within : (s t f : List ℕ) {S T : Schema} {F : Mapping} → Bytes f → judge_schema s ≡ sound S → judge_schema t ≡ sound T
+      → judge_mapping (listed_category S) (listed_category T) f ≡ sound F → length f ≤ max_mapping_bytes
   -- "Where all three Delta results are accepted, pulling a book back along the composition and pulling it back along G and then F give the same sheet bytes":
   -- where composing and Delta along G are accepted, with results cut to their length, Delta along the first's result and Delta along F of the second's give the
   -- same answer and leave the same tray
-  pub delta_composite : {ks : Kinds} → WellFormedKinds ks → (s t u f g j : List ℕ) {h d : List ℕ} (first second tray : List ℕ) → cut_to_length (in_tray first (compose s t u f g)) ≡ accepted h
-      → cut_to_length (in_tray second (sheet_of (delta_tables listed ks t u g j))) ≡ accepted d
-      → in_tray tray (sheet_of (delta_tables listed ks s u h j)) ≡ in_tray tray (sheet_of (delta_tables listed ks s t f d))
+  pub delta_composite : (s t u f g j : List ℕ) {h d : List ℕ} (first second tray : List ℕ) → cut_to_length (in_tray first (compose s t u f g)) ≡ accepted h
+      → cut_to_length (in_tray second (sheet_of (delta_tables t u g j))) ≡ accepted d → in_tray tray (sheet_of (delta_tables s u h j)) ≡ in_tray tray (sheet_of (delta_tables s t f d))
   -- three hops in either grouping, byte for byte
   pub associative : (s t u v f g k : List ℕ) {h l : List ℕ} → compose s t u f g ≡ accepted h → compose t u v g k ≡ accepted l → compose s u v h k ≡ compose s t v f l
   -- the identity mapping is accepted, and composing with it on either side gives a mapping sheet back, byte for byte
-  pub identity_accepted : (s : List ℕ) {S : Category} → listed.judge_category s ≡ sound S → (judge_mapping listed S S (mapping_sheet (identity S.schema)) ≡ sound (identity S.schema))
-      × SameImages (theory_composition.identity (schema_of S.schema)) (mapping_of S.schema S.schema (identity S.schema))
-  pub identity_first : (s t f : List ℕ) {S T : Category} {F : Mapping} → Bytes f → listed.judge_category s ≡ sound S → listed.judge_category t ≡ sound T
-      → judge_mapping listed S T f ≡ sound F → compose s s t (mapping_sheet (identity S.schema)) f ≡ accepted f
-  pub identity_last : (s t f : List ℕ) {S T : Category} {F : Mapping} → Bytes f → listed.judge_category s ≡ sound S → listed.judge_category t ≡ sound T
-      → judge_mapping listed S T f ≡ sound F → compose s t t f (mapping_sheet (identity T.schema)) ≡ accepted f
+  pub identity_accepted : (s : List ℕ) {S : Schema} → judge_schema s ≡ sound S → (judge_mapping (listed_category S) (listed_category S) (mapping_sheet (identity S)) ≡ sound (identity S))
+      × SameImages (theory_composition.identity (schema_of S)) (mapping_of S S (identity S))
+  pub identity_first : (s t f : List ℕ) {S T : Schema} {F : Mapping} → Bytes f → judge_schema s ≡ sound S → judge_schema t ≡ sound T
+      → judge_mapping (listed_category S) (listed_category T) f ≡ sound F → compose s s t (mapping_sheet (identity S)) f ≡ accepted f
+  pub identity_last : (s t f : List ℕ) {S T : Schema} {F : Mapping} → Bytes f → judge_schema s ≡ sound S → judge_schema t ≡ sound T
+      → judge_mapping (listed_category S) (listed_category T) f ≡ sound F → compose s t t f (mapping_sheet (identity T)) ≡ accepted f
   -- beyond the request: where Sigma along F and then G is accepted, so is Sigma along the composition, and the two are isomorphic: they have the same rows, in
   -- another order, and those that come from one row of the run correspond
-  pub sigma_isomorphic : {ks : Kinds} → WellFormedKinds ks → (s t u f g i : List ℕ) {x : Composable} {I : Instance} {h : List ℕ} {P R : Migrated} → ComposeInputs s t u f g x
-      → judge_instance ks x.S.schema i ≡ sound I → compose s t u f g ≡ accepted h → sigma_tables listed ks s t f i ≡ accepted P
-      → sigma_tables listed ks t u g (instance_sheet P.tables) ≡ accepted R → (Q : Migrated) × (sigma_tables listed ks s u h i ≡ accepted Q) × SigmaIsomorphic (mapping_f x) (mapping_g x) (instance_of I) (instance_of P.tables) (instance_of Q.tables) (instance_of R.tables)
-
--- ---- Document 02, C-18: the operator's own kinds
-
-pub record C18 : Type 1 where
-  -- "They may hand in a kinds sheet: 16 pairs of smallest and largest, 32 bits each, in place of the built-in list": 128 bytes; accepted is exactly the whole sheet of
-  -- a well-formed list
-  pub kinds_bytes : (ks : Kinds) → WellFormedKinds ks → length (kinds_sheet ks) ≡ 128
-  pub kinds_accepted : (k : List ℕ) → Bytes k → (ks : Kinds) → (judge_kinds k ≡ sound ks) ↔ (WellFormedKinds ks × (k ≡ kinds_sheet ks))
-  -- "the tests 1 and 2 apply to it"; "20, bad kinds, a smallest above its largest or kind 15 not 0 to 0, after 2 in that sheet": in this order, and 20 exactly then, of
-  -- a sheet that is read whole
-  pub kinds_decided : (place : ℕ) (k : List ℕ) → Decides (kinds_tests place k) (at place (judge_kinds k))
-  pub test_20 : (ks : Kinds) → (kinds_fit ks ≡ true) ↔ KindsFit ks
-  pub refusal_20 : (k : List ℕ) → (judge_kinds k ≡ faulty 20) ↔ ((ks : Kinds) × (on_sheet read_kinds k ≡ sound ks) × (KindsFit ks → ⊥))
-  -- "It is judged before S, places count it as sheet 1": of a sheet that is not accepted its own number at place 1, whatever else is lent; else what the call gives
-  -- by its list, with each other sheet's place one more, and 0 stays 0
-  pub kinds_first : {A : Type 0} (k : List ℕ) {n : ℕ} → judge_kinds k ≡ faulty n → (call : Kinds → Outcome A) → in_form (own k) call ≡ refused n 1
-  pub kinds_given : {A : Type 0} (k : List ℕ) {ks : Kinds} → judge_kinds k ≡ sound ks → (call : Kinds → Outcome A) → in_form (own k) call ≡ moved (call ks)
-  pub places_moved : {A : Type 0} (n place : ℕ) → moved {A = A} (refused n (suc place)) ≡ refused n (suc (suc place))
-  pub places_kept : {A : Type 0} (n : ℕ) → moved {A = A} (refused n 0) ≡ refused n 0
-  pub refusals : (k : List ℕ) → form_refusals (own k) (matching_refusals listed_tests)
-      ≡ placed 1 kinds_numbers ++ placed 2 schema_numbers ++ placed 3 schema_numbers ++ placed 4 mapping_numbers ++ placed 5 instance_numbers ++ placed 6 instance_numbers
-      ++ (12, 0) ∷ (15, 0) ∷ (15, 0) ∷ placed 7 matching_numbers
-  -- a second form leaves the tray as the call does whose places it moves
-  pub tray_moved : (tray : List ℕ) (o : Outcome (List ℕ)) → in_tray tray (moved o) ≡ record { answer = moved (in_tray tray o).answer; tray = (in_tray tray o).tray }
-  -- "Delta, Sigma, Pi, both checkers and both turnings each get a second form that takes it": the first is the call at the built-in list; lent that list as a sheet, the
-  -- second answers as the first, with places moved
-  pub first_form : {A : Type 0} (call : Kinds → Outcome A) → in_form builtIn call ≡ call kinds
-  pub built-in-sheet : {A : Type 0} (call : Kinds → Outcome A) → in_form (own (kinds_sheet kinds)) call ≡ moved (in_form builtIn call)
-  -- "The second forms mean the same as the first but for the places, the kinds sheet's tests and the ranges in 10, shown for every well-formed list together": where
-  -- test 10, where it is reached, has one answer by both lists for each instance lent, the second form answers as the first, with places moved
-  pub delta_second : (K : SchemaKind) (k : List ℕ) {ks : Kinds} → judge_kinds k ≡ sound ks → (s t f j : List ℕ) → JudgeAlike K ks kinds t j
-      → delta_in K (own k) s t f j ≡ moved (delta_in K builtIn s t f j)
-  pub sigma_second : (K : SchemaKind) (k : List ℕ) {ks : Kinds} → judge_kinds k ≡ sound ks → (s t f i : List ℕ) → JudgeAlike K ks kinds s i
-      → sigma_in K (own k) s t f i ≡ moved (sigma_in K builtIn s t f i)
-  pub pi_second : (K : SchemaKind) (k : List ℕ) {ks : Kinds} → judge_kinds k ≡ sound ks → (s t f i : List ℕ) → JudgeAlike K ks kinds s i
-      → pi_in K (own k) s t f i ≡ moved (pi_in K builtIn s t f i)
-  pub sides_second : (K : SchemaKind) (k : List ℕ) {ks : Kinds} → judge_kinds k ≡ sound ks → (s t f i j l : List ℕ) → JudgeAlike K ks kinds s i → JudgeAlike K ks kinds t j
-      → (check_pushed_in K (own k) s t f i j l ≡ moved (check_pushed_in K builtIn s t f i j l)) × (check_raw_in K (own k) s t f i j l ≡ moved (check_raw_in K builtIn s t f i j l))
-      × (pushed_to_raw_in K (own k) s t f i j l ≡ moved (pushed_to_raw_in K builtIn s t f i j l)) × (raw_to_pushed_in K (own k) s t f i j l ≡ moved (raw_to_pushed_in K builtIn s t f i j l))
+  pub sigma_isomorphic : (s t u f g i : List ℕ) {x : Composable} {I : Instance} {h : List ℕ} {P R : Migrated} → ComposeInputs s t u f g x → judge_instance x.S i ≡ sound I
+      → compose s t u f g ≡ accepted h → sigma_tables s t f i ≡ accepted P → sigma_tables t u g (instance_sheet P.tables) ≡ accepted R
+      → (Q : Migrated) × (sigma_tables s u h i ≡ accepted Q) × SigmaIsomorphic (mapping_f x) (mapping_g x) (instance_of I) (instance_of P.tables) (instance_of Q.tables) (instance_of R.tables)
 
 -- ---- The programs push and dig
 

@@ -1,9 +1,8 @@
 -- The run's sheet and the tests of the mappings before the migrations, and the whole call.
 use Prim.Native.Nat.{ℕ}
-use mathlib.Core.Path.{◌≡◌, refl, sym, ap, subst, ◌∙◌}
+use mathlib.Core.Path.{◌≡◌, refl, sym, ap, ◌∙◌}
 use mathlib.Core.List.{List}
 use Rattle.meaning.specs.Formats as formats
-use Rattle.meaning.specs.Formats.{Kinds, kinds}
 use Rattle.meaning.specs.Judge.{judge_instance}
 use Rattle.meaning.specs.Calls as meaning
 use Rattle.meaning.specs.Calls.{Outcome, accepted, ◌>>=◌, at}
@@ -34,17 +33,8 @@ rest y = ensure_mappings y.0 >>= λ _. migrate_query y.0 y.1
 -- what the eight sheets say: those of the query, then the run's
 pub record Judged (q : Query) (run : Instance) (links values i : List ℕ) (r : Refusal) : Type 0 where
   pub opened : IsOpened q
-  pub tested : instance.Tested kinds q.first run links values (judge_instance kinds (schema_of q.first) i)
+  pub tested : instance.Tested q.first run links values (judge_instance (schema_of q.first) i)
   pub first : r ≡ or_next q.refusal (refusal run.fault 8)
-
--- the run's, judged by an array that holds the built-in kinds
-pub sheets-judged : {q : Query} {run : Instance} {links values i : List ℕ} {r : Refusal} {ks : Kinds} → ks ≡ kinds → IsOpened q → instance.Tested ks q.first run links values (judge_instance ks (schema_of q.first) i)
-    → r ≡ or_next q.refusal (refusal run.fault 8) → Judged q run links values i r
-sheets-judged {q} {run} {links} {values} {i} e O T h = record {
-  opened = O;
-  tested = subst (λ (ks : Kinds). instance.Tested ks q.first run links values (judge_instance ks (schema_of q.first) i)) e T;
-  first = h;
-}
 
 module _ {q : Query} {run : Instance} {links values i : List ℕ} {r : Refusal} (J : Judged q run links values i r) where
   abbrev run-refusal : Refusal
@@ -57,16 +47,16 @@ module _ {q : Query} {run : Instance} {links values i : List ℕ} {r : Refusal} 
   result = record { schema = schema_of q.fourth.schema; tables = tables_of q.first run links values }
 
   abbrev sheets : Outcome (queries.Query × formats.Instance)
-  sheets = opened_of q >>= λ Q. at 8 (judge_instance kinds Q.S1.schema i) >>= λ I. accepted (Q, I)
+  sheets = opened_of q >>= λ Q. at 8 (judge_instance Q.S1 i) >>= λ I. accepted (Q, I)
 
   sheets-told : outcome_of r input ≡ sheets
   sheets-told =
       ap (λ (r : Refusal). outcome_of r input) J.first ∙
-      then q.refusal (query_of q) refl run-refusal input (λ Q. at 8 (judge_instance kinds Q.S1.schema i) >>= λ I. accepted (Q, I))
+      then q.refusal (query_of q) refl run-refusal input (λ Q. at 8 (judge_instance Q.S1 i) >>= λ I. accepted (Q, I))
       (yields run-refusal (tables_of q.first run links values) (judged-at run.fault 8 (tables_of q.first run links values) J.tested.says) (λ I. (query_of q, I)))
 
   regrouped : (sheets >>= rest) ≡ answered (opened_of q) i
-  regrouped = bind_assoc (opened_of q) _ rest _ (λ Q. bind_assoc (at 8 (judge_instance kinds Q.S1.schema i)) _ rest _ (λ I. refl))
+  regrouped = bind_assoc (opened_of q) _ rest _ (λ Q. bind_assoc (at 8 (judge_instance Q.S1 i)) _ rest _ (λ I. refl))
 
   -- a sheet was refused
   pub sheets-stopped : (r.number ≡ 0 → ⊥) → {j : Instance} {l v : List ℕ} → RoomFor q.fourth.schema l v → Migrates (record { refusal = r; schema = q.fourth.schema; tables = j }) l v (answered (opened_of q) i)

@@ -82,7 +82,7 @@ module _ {q : Query} {k : Components} {pulled : Instance} {links values : List â
       pub families-listed : Listed q.second.schema q.third.schema q.third.paths q.g pulled k l.counts rows values
       families-listed = L.listed all_fit
 
-      joined-valid : ValidInstance kinds (schema_of q.third.schema) P
+      joined-valid : ValidInstance (schema_of q.third.schema) P
       joined-valid = pi-valid valid-g D ((bijective-iff valid-g).0 J.tested.bijective) J.valid (fit P number_is z)
 
       module _ {r : Instance} {found read : List â„•} (M : Made q.second.schema q.third.schema q.third.paths q.g pulled k l.counts rows values r found read) where

@@ -4,10 +4,10 @@ use mathlib.Core.Path.{◌≡◌, refl, sym, ap, subst, ◌∙◌}
 use mathlib.Core.Bool.{Bool, true, false, cond}
 use mathlib.Core.List.{List}
 use native.Mathlib.Omega.{arith}
-use Rattle.meaning.specs.Category as categories
+use Rattle.meaning.specs.Schema as schemas
+use Rattle.meaning.specs.Category.{listed_category}
 use Rattle.meaning.specs.Formats as formats
-use Rattle.meaning.specs.Judge.{judge_schema}
-use Rattle.meaning.specs.SchemaKinds.{judge_mapping, listed}
+use Rattle.meaning.specs.Judge.{judge_schema, judge_mapping}
 use Rattle.meaning.specs.Evenness.{even}
 use Rattle.meaning.specs.Pi.{is_bijective, has_few_components}
 use Rattle.meaning.specs.Calls.{Outcome, accepted, ◌>>=◌, at, ensure}
@@ -23,30 +23,29 @@ use Rattle.steps.specs.Answers.{or_next, outcome_of}
 use Rattle.steps.specs.Opened as migration
 use Rattle.steps.specs.Opened.{SchemaSays, opened_between}
 use Rattle.steps.proofs.Refusing.{refusal, some-refusal, judged-at, then, yields, tested, or_assoc, none_first, none-next}
-use Rattle.steps.proofs.Opening.{category-judged}
 use Rattle.query.specs.declared.open.Query.{Query}
 use Rattle.query.specs.Opened.{query_of, Schemas, Ready, Opens, IsOpened}
 
 -- ---- the judges in turn, each with what follows it
 
 module _ (s2 s3 s4 f g h : List ℕ) where
-  abbrev after6 : categories.Category → categories.Category → categories.Category → categories.Category → formats.Mapping → formats.Mapping → Outcome meaning.Query
-  after6 S1 S2 S3 S4 F G = at 7 (judge_mapping listed S3 S4 h) >>= λ H. accepted (record { S1 = S1; S2 = S2; S3 = S3; S4 = S4; F = F; G = G; H = H })
+  abbrev after6 : schemas.Schema → schemas.Schema → schemas.Schema → schemas.Schema → formats.Mapping → formats.Mapping → Outcome meaning.Query
+  after6 S1 S2 S3 S4 F G = at 7 (judge_mapping (listed_category S3) (listed_category S4) h) >>= λ H. accepted (record { S1 = S1; S2 = S2; S3 = S3; S4 = S4; F = F; G = G; H = H })
 
-  abbrev after5 : categories.Category → categories.Category → categories.Category → categories.Category → formats.Mapping → Outcome meaning.Query
-  after5 S1 S2 S3 S4 F = at 6 (judge_mapping listed S2 S3 g) >>= after6 S1 S2 S3 S4 F
+  abbrev after5 : schemas.Schema → schemas.Schema → schemas.Schema → schemas.Schema → formats.Mapping → Outcome meaning.Query
+  after5 S1 S2 S3 S4 F = at 6 (judge_mapping (listed_category S2) (listed_category S3) g) >>= after6 S1 S2 S3 S4 F
 
-  abbrev after4 : categories.Category → categories.Category → categories.Category → categories.Category → Outcome meaning.Query
-  after4 S1 S2 S3 S4 = at 5 (judge_mapping listed S2 S1 f) >>= after5 S1 S2 S3 S4
+  abbrev after4 : schemas.Schema → schemas.Schema → schemas.Schema → schemas.Schema → Outcome meaning.Query
+  after4 S1 S2 S3 S4 = at 5 (judge_mapping (listed_category S2) (listed_category S1) f) >>= after5 S1 S2 S3 S4
 
-  abbrev after3 : categories.Category → categories.Category → categories.Category → Outcome meaning.Query
-  after3 S1 S2 S3 = at 4 (listed.judge_category s4) >>= after4 S1 S2 S3
+  abbrev after3 : schemas.Schema → schemas.Schema → schemas.Schema → Outcome meaning.Query
+  after3 S1 S2 S3 = at 4 (judge_schema s4) >>= after4 S1 S2 S3
 
-  abbrev after2 : categories.Category → categories.Category → Outcome meaning.Query
-  after2 S1 S2 = at 3 (listed.judge_category s3) >>= after3 S1 S2
+  abbrev after2 : schemas.Schema → schemas.Schema → Outcome meaning.Query
+  after2 S1 S2 = at 3 (judge_schema s3) >>= after3 S1 S2
 
-  abbrev after1 : categories.Category → Outcome meaning.Query
-  after1 S1 = at 2 (listed.judge_category s2) >>= after2 S1
+  abbrev after1 : schemas.Schema → Outcome meaning.Query
+  after1 S1 = at 2 (judge_schema s2) >>= after2 S1
 
 module _ (a b c d : Category) (f g h : Mapping) where
   abbrev sheet_refusal : Refusal
@@ -58,8 +57,8 @@ module _ (a b c d : Category) (f g h : Mapping) where
   opened r = record { refusal = r; first = a.schema; second = b; third = c; fourth = d; f = f; g = g; h = h }
 
   module _ (s1 s2 s3 s4 sf sg sh : List ℕ) (A : SchemaSays a (judge_schema s1)) (B : SchemaSays b (judge_schema s2)) (C : SchemaSays c (judge_schema s3)) (D : SchemaSays d (judge_schema s4))
-      (F : Says b.schema a.schema f (judge_mapping listed (category_of b.schema) (category_of a.schema) sf)) (G : Says b.schema c.schema g (judge_mapping listed (category_of b.schema) (category_of c.schema) sg))
-      (H : Says c.schema d.schema h (judge_mapping listed (category_of c.schema) (category_of d.schema) sh)) where
+      (F : Says b.schema a.schema f (judge_mapping (category_of b.schema) (category_of a.schema) sf)) (G : Says b.schema c.schema g (judge_mapping (category_of b.schema) (category_of c.schema) sg))
+      (H : Says c.schema d.schema h (judge_mapping (category_of c.schema) (category_of d.schema) sh)) where
     abbrev result : meaning.Query
     result = query_of (opened sheet_refusal)
 
@@ -93,10 +92,10 @@ module _ (a b c d : Category) (f g h : Mapping) where
           or_assoc (or_next r1 r2) r3 (or_next r4 (or_next r5 (or_next r6 r7))),
           or_assoc r1 r2 (or_next r3 (or_next r4 (or_next r5 (or_next r6 r7)))),
         ) (
-        then r1 (category_of a.schema) (judged-at a.schema.fault 1 (category_of a.schema) (category-judged a.schema s1 A.says)) (or_next r2 (or_next r3 (or_next r4 (or_next r5 (or_next r6 r7))))) result (after1 s2 s3 s4 sf sg sh) (
-        then r2 (category_of b.schema) (judged-at b.schema.fault 2 (category_of b.schema) (category-judged b.schema s2 B.says)) (or_next r3 (or_next r4 (or_next r5 (or_next r6 r7)))) result (after2 s2 s3 s4 sf sg sh result.S1) (
-        then r3 (category_of c.schema) (judged-at c.schema.fault 3 (category_of c.schema) (category-judged c.schema s3 C.says)) (or_next r4 (or_next r5 (or_next r6 r7))) result (after3 s2 s3 s4 sf sg sh result.S1 result.S2) (
-        then r4 (category_of d.schema) (judged-at d.schema.fault 4 (category_of d.schema) (category-judged d.schema s4 D.says)) (or_next r5 (or_next r6 r7)) result (after4 s2 s3 s4 sf sg sh result.S1 result.S2 result.S3) (
+        then r1 (schema_of a.schema) (judged-at a.schema.fault 1 (schema_of a.schema) A.says) (or_next r2 (or_next r3 (or_next r4 (or_next r5 (or_next r6 r7))))) result (after1 s2 s3 s4 sf sg sh) (
+        then r2 (schema_of b.schema) (judged-at b.schema.fault 2 (schema_of b.schema) B.says) (or_next r3 (or_next r4 (or_next r5 (or_next r6 r7)))) result (after2 s2 s3 s4 sf sg sh result.S1) (
+        then r3 (schema_of c.schema) (judged-at c.schema.fault 3 (schema_of c.schema) C.says) (or_next r4 (or_next r5 (or_next r6 r7))) result (after3 s2 s3 s4 sf sg sh result.S1 result.S2) (
+        then r4 (schema_of d.schema) (judged-at d.schema.fault 4 (schema_of d.schema) D.says) (or_next r5 (or_next r6 r7)) result (after4 s2 s3 s4 sf sg sh result.S1 result.S2 result.S3) (
         then r5 (mapping_of b.schema f) (judged-at f.fault 5 (mapping_of b.schema f) F.says) (or_next r6 r7) result (after5 s2 s3 s4 sf sg sh result.S1 result.S2 result.S3 result.S4) (
         then r6 (mapping_of b.schema g) (judged-at g.fault 6 (mapping_of b.schema g) G.says) r7 result (after6 s2 s3 s4 sf sg sh result.S1 result.S2 result.S3 result.S4 result.F) (
         yields r7 (mapping_of c.schema h) (judged-at h.fault 7 (mapping_of c.schema h) H.says) (λ H. record { S1 = result.S1; S2 = result.S2; S3 = result.S3; S4 = result.S4; F = result.F; G = result.G; H = H }))))))))

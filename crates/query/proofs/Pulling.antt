@@ -61,7 +61,7 @@ module _ {q : Query} {k : Components} {run : Instance} {run-links run-values : L
       joinable = record {
         tested = X.tested;
         limits = record { rows = subst (λ (J : formats.Instance). sum_of J.counts ≤ 512) (sym U.says) (fit D number_is z); long = U.long };
-        valid = subst (ValidInstance kinds (schema_of q.second.schema)) (sym U.says)
+        valid = subst (ValidInstance (schema_of q.second.schema)) (sym U.says)
             (delta-valid (sound-valid ready.schemas.second.sound ready.schemas.first ready.f) I X.valid (fit D number_is z));
       }
 

@@ -4,7 +4,7 @@ use Rattle.meaning.specs.Evenness.{even}
 use Rattle.meaning.specs.Pi.{is_bijective, has_few_components}
 use Rattle.meaning.specs.Calls.{Outcome}
 use Rattle.meaning.specs.Query as meaning
-use Rattle.schema.specs.Decoded.{category_of}
+use Rattle.schema.specs.Decoded.{schema_of, category_of}
 use Rattle.schema.specs.Judged as schema
 use Rattle.mapping.specs.Decoded.{mapping_of}
 use Rattle.mapping.specs.Judged.{Sound}
@@ -17,10 +17,10 @@ use Rattle.query.specs.declared.open.Query.{Query}
 
 abbrev pub query_of : Query → meaning.Query
 query_of q = record {
-  S1 = category_of q.first;
-  S2 = category_of q.second.schema;
-  S3 = category_of q.third.schema;
-  S4 = category_of q.fourth.schema;
+  S1 = schema_of q.first;
+  S2 = schema_of q.second.schema;
+  S3 = schema_of q.third.schema;
+  S4 = schema_of q.fourth.schema;
   F = mapping_of q.second.schema q.f;
   G = mapping_of q.second.schema q.g;
   H = mapping_of q.third.schema q.h;
@@ -71,7 +71,7 @@ have_few_columns q = instance.has_few_columns q.first && instance.has_few_column
 -- ---- the tests of G and H
 
 abbrev pub paired : Query → Bool
-paired q = is_bijective (query_of q).S3.schema (query_of q).G
+paired q = is_bijective (query_of q).S3 (query_of q).G
 
 abbrev pub narrow : Query → Bool
 narrow q = has_few_components (category_of q.second.schema) (category_of q.third.schema) (query_of q).G

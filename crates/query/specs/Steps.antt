@@ -1,7 +1,7 @@
 -- What the steps of a query yield, one behind the other, and what each relies on.
 use Rattle.std.specs.Prelude.{ℕ, ◌≡◌, List, length}
 use Rattle.meaning.specs.Formats as formats
-use Rattle.meaning.specs.Formats.{kinds}
+use Rattle.meaning.specs.Category.{listed_category}
 use Rattle.meaning.specs.Judge.{judge_instance}
 use Rattle.meaning.specs.Sigma.{sigma}
 use Rattle.meaning.specs.Pi.{pi}
@@ -19,15 +19,15 @@ use Rattle.query.specs.Opened.{Tested}
 -- Sigma of Pi of Delta's tables, and 15 of both
 abbrev pub pushed_pi : meaning.Query → formats.Instance → Outcome Migrated
 pushed_pi q D = do
-  P ← ensure_fits (pi q.S2 q.S3 q.G D)
-  Q ← ensure_fits (sigma q.S3 q.S4 q.H P)
-  accepted (record { schema = q.S4.schema; tables = Q })
+  P ← ensure_fits (pi (listed_category q.S2) (listed_category q.S3) q.G D)
+  Q ← ensure_fits (sigma (listed_category q.S3) (listed_category q.S4) q.H P)
+  accepted (record { schema = q.S4; tables = Q })
 
 -- the run's sheet, the tests of G and H, then the migrations
 abbrev pub answered : Outcome meaning.Query → List ℕ → Outcome Migrated
 answered X i = do
   q ← X
-  I ← at 8 (judge_instance kinds q.S1.schema i)
+  I ← at 8 (judge_instance q.S1 i)
   _ ← ensure_mappings q
   migrate_query q I
 
@@ -45,10 +45,10 @@ pub record Rooms (q : Query) (run-links run-values links values rows : List ℕ)
 pub record Joinable (q : Query) (k : Components) (pulled : Instance) (links values : List ℕ) : Type 0 where
   pub tested : Tested q k
   pub limits : Limits q.second.schema pulled
-  pub valid : ValidInstance kinds (schema_of q.second.schema) (tables_of q.second.schema pulled links values)
+  pub valid : ValidInstance (schema_of q.second.schema) (tables_of q.second.schema pulled links values)
 
 -- and a run
 pub record Migratable (q : Query) (k : Components) (run : Instance) (links values : List ℕ) : Type 0 where
   pub tested : Tested q k
   pub limits : Limits q.first run
-  pub valid : ValidInstance kinds (schema_of q.first) (tables_of q.first run links values)
+  pub valid : ValidInstance (schema_of q.first) (tables_of q.first run links values)

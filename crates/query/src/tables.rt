@@ -6,7 +6,6 @@ ghost use Rattle.meaning.specs.Query.{migrate_query};
 ghost use Rattle.query.specs.Steps.{pushed_pi, answered, Rooms, Joinable, Migratable};
 
 use crate::open::{Query, unanswerable};
-use instance::kinds::kinds;
 use instance::{Instance, judge_instance};
 use pi::components::Components;
 use pi::families::list_families;
@@ -134,8 +133,7 @@ pub(crate) fn query_tables(
     ensures { Migrates result links.new values.new (answered (opened_of q) i.now) }
 {
     let fourth = q.fourth.schema;
-    let list = kinds();
-    let run = judge_instance(q.first, i, &list, &mut *run_links, &mut *run_values);
+    let run = judge_instance(q.first, i, &mut *run_links, &mut *run_values);
     let first = q.refusal;
     let sheets = first.or(run.fault, 8);
     if sheets.number == 0 {

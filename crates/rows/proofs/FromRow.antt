@@ -16,7 +16,7 @@ use Rattle.meaning.specs.Lists.{all, sum_of}
 use Rattle.meaning.specs.Schema.{Attribute, source, target, joins}
 use Rattle.meaning.specs.Sheet.{faulty, sound, judged, on_sheet}
 use Rattle.meaning.specs.Formats as formats
-use Rattle.meaning.specs.Formats.{kinds, read_tables}
+use Rattle.meaning.specs.Formats.{read_tables}
 use Rattle.meaning.specs.Views.{count, link, follow}
 use Rattle.meaning.specs.Rows as meaning
 use Rattle.meaning.specs.Rows.{read_row, added, row_obeys_equations}
@@ -156,7 +156,7 @@ module _ (t : Schema) (A : Sound t) (i : Instance) (c : ℕ) (c-in : c < t.graph
   c-low : c < 16
   c-low = let n = A.limits.nodes in omega arith
 
-  valid : ValidInstance kinds (schema_of t) I
+  valid : ValidInstance (schema_of t) I
   valid = accepted-valid A i links U.values U.limits U.accepted
 
   -- a column of its table has the row alone

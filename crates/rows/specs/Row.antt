@@ -3,7 +3,6 @@ use Rattle.std.specs.Prelude.{ℕ, ◌*◌, ◌≤◌, ◌<◌, ◌≡◌, true,
 use Rattle.theory.specs.Instance.{follow}
 use Rattle.meaning.specs.Sheet.{Judged}
 use Rattle.meaning.specs.Formats as formats
-use Rattle.meaning.specs.Formats.{kinds}
 use Rattle.meaning.specs.Rows.{row_links_in_range}
 use Rattle.schema.specs.declared.Schema.{Schema}
 use Rattle.schema.specs.Decoded.{schema_of}
@@ -48,7 +47,7 @@ pub record AcceptedLinks (t : Schema) (i : Instance) (links : List ℕ) : Type 0
   pub limits : Limits t i
   pub room : 512 * t.graph.edges ≤ length links
   pub values : List ℕ
-  pub accepted : Accepted kinds t i links values
+  pub accepted : Accepted t i links values
 
 -- a row of table c with links to rows of the run
 pub record RowLinked (t : Schema) (i : Instance) (c : ℕ) (links : List ℕ) : Type 0 where

@@ -1,19 +1,17 @@
 // The judge of an added row's sheet: refusals 1, 2, 9, 10 and 11.
 ghost use Rattle.std.specs.Prelude.{◌≡◌, not, [], ◌*◌, ◌≤◌, ◌<◌, eqb, length};
 ghost use Rattle.meaning.specs.Sheet.{on_sheet};
-ghost use Rattle.meaning.specs.Formats as formats;
-ghost use Rattle.meaning.specs.Judge.{values_in_range};
 ghost use Rattle.meaning.specs.Rows as meaning;
 ghost use Rattle.schema.specs.Decoded.{path_of, schema_of, front_of};
 ghost use Rattle.schema.specs.Judged.{Sound};
 ghost use Rattle.instance.specs.Decoded.{tables_of, Limits, RoomFor};
 ghost use Rattle.rows.specs.Row.{row_with, row_of, judged_row, follow_row, StaysOn, AcceptedLinks, RowLinked};
 
+use instance::Instance;
 use instance::decode::{decode_tables, wide};
 use instance::follow::follow;
 use instance::kinds::kinds;
-use instance::range::columns_below;
-use instance::{Instance, range};
+use instance::range::{columns_below, values_in_range};
 use schema::{Path, Schema, faults, numbers};
 
 // One row of a table, and none of the others.
@@ -52,15 +50,6 @@ fn links_in_range(schema: Schema, run: Instance, table: usize, row_links: &[u32]
     let rows = row.counts;
     let counts = run.counts;
     columns_below(graph.edges, &source, &target, &rows, &counts, row_links)
-}
-
-// Refusal 10 (off scale), of the values of a row, by the built-in kinds.
-fn values_in_range(schema: Schema, table: usize, row_values: &[u32]) -> bool
-    requires { Sound schema × (table < schema.graph.nodes) × (512 * schema.attributes ≤ length row_values.now) }
-    ensures { result ≡ values_in_range formats.kinds (schema_of schema) (row_of schema table [] row_values.now) }
-{
-    let list = kinds();
-    range::values_in_range(schema, one_row(table), row_values, &list)
 }
 
 // The row to which the first n edges lead from a row that stands in no table yet: its own links are the first of each column of row_links.
@@ -134,7 +123,7 @@ pub fn judge_row(
     let read = read_row(schema, table, s, &mut *row_links, &mut *row_values);
     if read == 0 {
         if links_in_range(schema, run, table, &*row_links) {
-            if values_in_range(schema, table, &*row_values) {
+            if values_in_range(schema, one_row(table), &*row_values, kinds()) {
                 if obeys_equations(schema, run, table, links, &*row_links) {
                     return 0;
                 }

@@ -1,4 +1,4 @@
-// The numbers with which a sheet is sent back for what it says by itself. Those from 12 to 19 are given by the calls.
+// The numbers with which a sheet is sent back for what it says by itself. Those from 12 on are given by the calls.
 pub const CUT: u8 = 1;
 
 pub const TAIL: u8 = 2;
@@ -20,6 +20,3 @@ pub const DANGLING: u8 = 9;
 pub const OFF_SCALE: u8 = 10;
 
 pub const BENT_ROW: u8 = 11;
-
-// Of a kinds sheet.
-pub const BAD_KINDS: u8 = 20;

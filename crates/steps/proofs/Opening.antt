@@ -1,12 +1,9 @@
 -- What the sheets of two schemas and a mapping between them say together.
 use Prim.Native.Nat.{ℕ}
-use mathlib.Core.Path.{◌≡◌, refl, ap, ◌∙◌}
+use mathlib.Core.Path.{◌≡◌, refl}
 use mathlib.Core.Bool.{Bool, true, false, cond}
 use mathlib.Core.List.{List}
-use lib.Dec.{eqb}
-use Rattle.meaning.specs.Schema as meaning
-use Rattle.meaning.specs.Judge.{judge_schema}
-use Rattle.meaning.specs.SchemaKinds.{judge_mapping, listed}
+use Rattle.meaning.specs.Judge.{judge_schema, judge_mapping}
 use Rattle.meaning.specs.Calls.{Outcome, Migration, migration, accepted, ◌>>=◌, at}
 use Rattle.schema.specs.Decoded.{category_of, schema_of, judged_schema}
 use Rattle.mapping.specs.declared.Mapping.{Mapping}
@@ -16,8 +13,6 @@ use Rattle.steps.specs.Opened.{Ready, Opens, IsOpened}
 use Rattle.steps.proofs.Refusing.{refusal, judged-at, then, yields, or_assoc}
 use Rattle.pi.specs.Given.{Mapped}
 use Rattle.meaning.specs.Category.{listed_category}
-use Rattle.meaning.specs.Sheet.{Judged, faulty, sound}
-use Rattle.meaning.specs.Judge as judge
 use Rattle.schema.specs.declared.Schema.{Schema}
 use Rattle.mapping.specs.Decoded.{mapping_of, judged_mapping}
 
@@ -28,27 +23,19 @@ passed false n some e = absurd (some e)
 
 -- ---- two schemas and a mapping
 
--- a judged schema sheet presents its category
-pub category-judged : (t : Schema) (s : List ℕ) → judged_schema t ≡ judge_schema s → cond (eqb t.fault 0) (sound (category_of t)) (faulty t.fault) ≡ listed.judge_category s
-category-judged t s e = go (eqb t.fault 0) ∙ ap (λ (J : Judged meaning.Schema). judge.◌>>=◌ J (λ S. sound (listed_category S))) e
-  where
-    go : (b : Bool) → cond b (sound (category_of t)) (faulty t.fault) ≡ judge.◌>>=◌ (cond b (sound (schema_of t)) (faulty t.fault)) (λ S. sound (listed_category S))
-    go true = refl
-    go false = refl
-
-pub mapping-opened : (t : Schema) (s : List ℕ) → judged_schema t ≡ judge_schema s → (u : Schema) (m : Mapping) (z f : List ℕ) → judged_schema u ≡ judge_schema z → judged_mapping t m ≡ judge_mapping listed (category_of t) (category_of u) f
-    → outcome_of (or_next (or_next (refusal t.fault 1) (refusal u.fault 2)) (refusal m.fault 3)) (record { S = category_of t; T = category_of u; F = mapping_of t m }) ≡ migration listed s z f
+pub mapping-opened : (t : Schema) (s : List ℕ) → judged_schema t ≡ judge_schema s → (u : Schema) (m : Mapping) (z f : List ℕ) → judged_schema u ≡ judge_schema z → judged_mapping t m ≡ judge_mapping (category_of t) (category_of u) f
+    → outcome_of (or_next (or_next (refusal t.fault 1) (refusal u.fault 2)) (refusal m.fault 3)) (record { S = schema_of t; T = schema_of u; F = mapping_of t m }) ≡ migration s z f
 mapping-opened t s S u m z f T F =
-    let result : Migration = record { S = category_of t; T = category_of u; F = mapping_of t m } in
+    let result : Migration = record { S = schema_of t; T = schema_of u; F = mapping_of t m } in
     rw (or_assoc (refusal t.fault 1) (refusal u.fault 2) (refusal m.fault 3)) (
-    then (refusal t.fault 1) (category_of t) (judged-at t.fault 1 (category_of t) (category-judged t s S)) (or_next (refusal u.fault 2) (refusal m.fault 3)) result (λ S. do
-      T ← at 2 (listed.judge_category z)
-      F ← at 3 (judge_mapping listed S T f)
+    then (refusal t.fault 1) (schema_of t) (judged-at t.fault 1 (schema_of t) S) (or_next (refusal u.fault 2) (refusal m.fault 3)) result (λ S. do
+      T ← at 2 (judge_schema z)
+      F ← at 3 (judge_mapping (listed_category S) (listed_category T) f)
       accepted (record { S = S; T = T; F = F }))
-    (then (refusal u.fault 2) (category_of u) (judged-at u.fault 2 (category_of u) (category-judged u z T)) (refusal m.fault 3) result (λ T. do
-      F ← at 3 (judge_mapping listed (category_of t) T f)
-      accepted (record { S = category_of t; T = T; F = F }))
-    (yields (refusal m.fault 3) (mapping_of t m) (judged-at m.fault 3 (mapping_of t m) F) (λ F. record { S = category_of t; T = category_of u; F = F }))))
+    (then (refusal u.fault 2) (schema_of u) (judged-at u.fault 2 (schema_of u) T) (refusal m.fault 3) result (λ T. do
+      F ← at 3 (judge_mapping (category_of t) (listed_category T) f)
+      accepted (record { S = schema_of t; T = T; F = F }))
+    (yields (refusal m.fault 3) (mapping_of t m) (judged-at m.fault 3 (mapping_of t m) F) (λ F. record { S = schema_of t; T = schema_of u; F = F }))))
 
 -- what opened sheets say
 pub is-opened : {o : Opened} {M : Outcome Migration} → Opens o M → IsOpened o

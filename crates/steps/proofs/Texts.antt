@@ -7,7 +7,7 @@ use native.Mathlib.Omega.{arith}
 use lib.ListN.{length, drop, length-append}
 use lib.Dec.{leb}
 use borrow.Author.Tests.{le-leb, lt-leb}
-use Rattle.meaning.specs.Formats.{kinds, instance_sheet}
+use Rattle.meaning.specs.Formats.{instance_sheet}
 use Rattle.meaning.specs.Schema.{Schema}
 use Rattle.meaning.specs.Program.{printed, shown}
 use Rattle.meaning.specs.Calls as meaning
@@ -32,14 +32,14 @@ module _ (r : Refusal) (m : meaning.Migrated) {old new : List ℕ} {t : Text} wh
 
 module _ {m : Migrated} {links values : List ℕ} {M : Outcome meaning.Migrated} (u : Migrates m links values M) where
   -- the sheet of an accepted result is an instance sheet, so its links have 9 bits
-  pub printable : ((N : meaning.Migrated) → M ≡ accepted N → (S : Schema) × Lendable kinds S N.tables) → m.refusal.number ≡ 0 → Printable m.schema m.tables links values
+  pub printable : ((N : meaning.Migrated) → M ≡ accepted N → (S : Schema) × Lendable S N.tables) → m.refusal.number ≡ 0 → Printable m.schema m.tables links values
   printable lendable none =
       let a = lendable (migrated_of m links values) (sym u.says ∙ no_refusal m.refusal (migrated_of m links values) none) in
       record {
         limits = u.writable.sound.limits;
         room = u.writable.room;
         rows = (u.writable.limits none).rows;
-        targets = λ e l r. (instance-facts kinds a.0 (instance_sheet (migrated_of m links values).tables) a.1.lent_again).fits_fields.link_below e r;
+        targets = λ e l r. (instance-facts a.0 (instance_sheet (migrated_of m links values).tables) a.1.lent_again).fits_fields.link_below e r;
       }
 
   pub prints : {old new : List ℕ} {r : Text} → max_text_bytes ≤ length old → Written (shown (outcome_of m.refusal (migrated_of m links values))) old r new → (r.length, new) ≡ printed_into old (shown M)

@@ -1,7 +1,6 @@
 -- What an answer says in the terms of document 01, and refusals in their order.
 use Rattle.std.specs.Prelude.{ℕ, cond, List, eqb}
 use Rattle.meaning.specs.Calls.{Outcome, refused, accepted, Lent}
-use Rattle.meaning.specs.OwnKinds.{moved_place}
 use Rattle.steps.specs.declared.Refusal.{Refusal}
 use Rattle.steps.specs.declared.Written.{Written}
 use Rattle.steps.specs.declared.Written.TheVariants as written
@@ -22,10 +21,6 @@ or_next r next = cond (eqb r.number 0) next r
 
 abbrev pub first_refusal : ℕ → ℕ → ℕ → Refusal
 first_refusal a b c = or_next (or_next (record { number = a; place = 1 }) (record { number = b; place = 2 })) (record { number = c; place = 3 })
-
--- at its place in a call that was lent a kinds sheet before the others
-abbrev pub moved_refusal : Refusal → Refusal
-moved_refusal r = record { number = r.number; place = moved_place r.place }
 
 module _ {A : Type 0} where
   abbrev pub outcome_of : Refusal → A → Outcome A

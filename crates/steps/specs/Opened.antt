@@ -2,9 +2,8 @@
 use Rattle.std.specs.Prelude.{ℕ, ◌≡◌, Bool, ◌&&◌, List}
 use Rattle.meaning.specs.Schema as meaning
 use Rattle.meaning.specs.Sheet.{Judged}
-use Rattle.meaning.specs.SchemaKinds.{listed}
 use Rattle.meaning.specs.Calls.{Outcome, Migration, migration}
-use Rattle.schema.specs.Decoded.{schema_of, category_of, judged_schema}
+use Rattle.schema.specs.Decoded.{schema_of, judged_schema}
 use Rattle.schema.specs.Judged as schema
 use Rattle.paths.specs.Classes.{IsPaths}
 use Rattle.mapping.specs.declared.Mapping.{Mapping}
@@ -30,7 +29,7 @@ abbrev pub opened_between : Refusal → Category → Category → Mapping → Op
 opened_between r c d f = record { refusal = r; source = c.schema; target = d.schema; source_paths = c.paths; target_paths = d.paths; mapping = f }
 
 abbrev pub migration_of : Opened → Migration
-migration_of o = record { S = category_of o.source; T = category_of o.target; F = mapping_of o.source o.mapping }
+migration_of o = record { S = schema_of o.source; T = schema_of o.target; F = mapping_of o.source o.mapping }
 
 -- what the three sheets say together
 abbrev pub opened_of : Opened → Outcome Migration
@@ -55,7 +54,7 @@ pub record FromSheets (o : Opened) : Type 0 where
   pub s : List ℕ
   pub t : List ℕ
   pub f : List ℕ
-  pub opens : Opens o (migration listed s t f)
+  pub opens : Opens o (migration s t f)
 
 -- both schemas have few columns
 abbrev pub have_few_columns : Opened → Bool

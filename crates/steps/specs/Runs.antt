@@ -1,12 +1,12 @@
 -- What the judges of a mapping and a run over S give together.
 use Rattle.std.specs.Prelude.{ℕ, ◌≡◌, true, List}
 use Rattle.meaning.specs.Formats as formats
-use Rattle.meaning.specs.Formats.{Kinds}
 use Rattle.meaning.specs.Judge.{judge_instance}
 use Rattle.meaning.specs.Evenness.{even}
 use Rattle.meaning.specs.Sigma.{sigma}
 use Rattle.meaning.specs.Calls as meaning
 use Rattle.meaning.specs.Calls.{Outcome, accepted, ◌>>=◌, at, ensure, ensure_fits, Migration}
+use Rattle.meaning.specs.Category.{listed_category}
 use Rattle.meaning.specs.Changes as changes
 use Rattle.schema.specs.Decoded.{category_of}
 use Rattle.mapping.specs.Decoded.{mapping_of}
@@ -26,23 +26,23 @@ pub record RunInput : Type 0 where
   pub m : Migration
   pub run : formats.Instance
 
-abbrev pub run_input : Kinds → Outcome Migration → List ℕ → Outcome RunInput
-run_input ks M i = do
+abbrev pub run_input : Outcome Migration → List ℕ → Outcome RunInput
+run_input M i = do
   m ← M
-  I ← at 4 (judge_instance ks m.S.schema i)
+  I ← at 4 (judge_instance m.S i)
   accepted (record { m = m; run = I })
 
 -- Sigma of the run, and its size
 abbrev pub pushed_run : RunInput → Outcome meaning.Migrated
 pushed_run y = do
-  P ← ensure_fits (sigma y.m.S y.m.T y.m.F y.run)
-  accepted (record { schema = y.m.T.schema; tables = P })
+  P ← ensure_fits (sigma (listed_category y.m.S) (listed_category y.m.T) y.m.F y.run)
+  accepted (record { schema = y.m.T; tables = P })
 
 -- the test of evenness, then Sigma
 abbrev pub evenly_pushed : Outcome RunInput → Outcome meaning.Migrated
 evenly_pushed X = do
   y ← X
-  _ ← ensure (even y.m.S y.m.T y.m.F) 12
+  _ ← ensure (even (listed_category y.m.S) (listed_category y.m.T) y.m.F) 12
   pushed_run y
 
 -- ---- in working arrays: the run's links and values
@@ -51,12 +51,12 @@ abbrev pub run_input_of : Opened → Instance → List ℕ → List ℕ → RunI
 run_input_of o run links values = record { m = migration_of o; run = tables_of o.source run links values }
 
 -- what the four sheets say, where the refusal is none
-pub record RunSays (ks : Kinds) (o : Opened) (r : Refusal) (run : Instance) (links values : List ℕ) (X : Outcome RunInput) : Type 0 where
+pub record RunSays (o : Opened) (r : Refusal) (run : Instance) (links values : List ℕ) (X : Outcome RunInput) : Type 0 where
   pub says : outcome_of r (run_input_of o run links values) ≡ X
   pub schemas : Schemas o.source o.target o.source_paths o.target_paths
   pub limits : Limits o.source run
   pub ready : (r.number ≡ 0 → Ready o)
-  pub accepted : (r.number ≡ 0 → Accepted ks o.source run links values)
+  pub accepted : (r.number ≡ 0 → Accepted o.source run links values)
 
 -- what Sigma relies on
 abbrev pub PushableRun : Opened → Instance → List ℕ → List ℕ → Type 0
@@ -66,10 +66,10 @@ abbrev pub run_of : Opened → Instance → List ℕ → List ℕ → changes.Ru
 run_of o run links values = record { m = migration_of o; tables = tables_of o.source run links values }
 
 -- what the four sheets say and the mapping is, where the refusal is none
-pub record RunOpens (ks : Kinds) (o : Opened) (r : Run) (links values : List ℕ) (X : Outcome changes.Run) : Type 0 where
+pub record RunOpens (o : Opened) (r : Run) (links values : List ℕ) (X : Outcome changes.Run) : Type 0 where
   pub says : outcome_of r.refusal (run_of o r.tables links values) ≡ X
   pub schemas : Schemas o.source o.target o.source_paths o.target_paths
   pub limits : Limits o.source r.tables
   pub ready : (r.refusal.number ≡ 0 → Ready o)
-  pub accepted : (r.refusal.number ≡ 0 → Accepted ks o.source r.tables links values)
+  pub accepted : (r.refusal.number ≡ 0 → Accepted o.source r.tables links values)
   pub is-even : (r.refusal.number ≡ 0 → even (category_of o.source) (category_of o.target) (mapping_of o.source o.mapping) ≡ true)

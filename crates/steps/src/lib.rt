@@ -6,10 +6,10 @@ pub mod pushing;
 pub mod results;
 pub mod tests;
 
-ghost use Rattle.std.specs.Prelude.{◌≡◌, ◌<◌};
-ghost use Rattle.steps.specs.Answers.{or_next, first_refusal, moved_refusal};
+ghost use Rattle.std.specs.Prelude.{◌≡◌};
+ghost use Rattle.steps.specs.Answers.{or_next, first_refusal};
 
-// Why a call refuses: a number from 1 to 20 and the place of the sheet that it is about, counted from 1, or 0 for all sheets together and for a change itself.
+// Why a call refuses: a number from 1 to 19 and the place of the sheet that it is about, counted from 1, or 0 for all sheets together and for a change itself.
 // Inside the library the number 0 is no refusal.
 #[derive(Drop)]
 pub struct Refusal {
@@ -51,20 +51,6 @@ impl Refusal {
             place: 1,
         };
         one.or(b, 2).or(c, 3)
-    }
-
-    // This refusal at its place in a call that was lent a kinds sheet before the others: places count that as sheet 1, and 0 stays 0.
-    pub fn moved(self) -> Refusal
-        requires { self.place < 255 }
-        ensures { result ≡ moved_refusal self }
-    {
-        if self.place == 0 {
-            return self;
-        }
-        Refusal {
-            number: self.number,
-            place: self.place + 1,
-        }
     }
 
     // This refusal or, where it is none, the next.

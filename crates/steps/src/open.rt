@@ -1,7 +1,6 @@
 // The sheets of schemas and of mappings between them, which migrations, checkers, turnings and queries open first.
 ghost use Rattle.std.specs.Prelude.{◌≡◌, cond};
-ghost use Rattle.meaning.specs.Judge.{judge_schema};
-ghost use Rattle.meaning.specs.SchemaKinds.{judge_mapping, listed};
+ghost use Rattle.meaning.specs.Judge.{judge_schema, judge_mapping};
 ghost use Rattle.meaning.specs.Evenness.{even};
 ghost use Rattle.meaning.specs.Calls.{migration};
 ghost use Rattle.schema.specs.Decoded.{category_of};
@@ -38,7 +37,7 @@ pub fn open_schema(s: &[u8]) -> Category
 // The sheet of a mapping between two schemas, judged; of the first no path is asked for.
 pub fn open_mapping(source: Schema, target: Category, f: &[u8]) -> Mapping
     requires { Sound source × IsListed target }
-    ensures { Says source target.schema result (judge_mapping listed (category_of source) (category_of target.schema) f.now) }
+    ensures { Says source target.schema result (judge_mapping (category_of source) (category_of target.schema) f.now) }
 {
     let paths = target.paths;
     judge_mapping(
@@ -82,7 +81,7 @@ pub fn between(refusal: Refusal, source: Category, target: Category, mapping: Ma
 
 // The sheets at places 1, 2 and 3, judged.
 pub fn open(s: &[u8], t: &[u8], f: &[u8]) -> Opened
-    ensures { Opens result (migration listed s.now t.now f.now) }
+    ensures { Opens result (migration s.now t.now f.now) }
 {
     let source = judge_schema(s);
     let target = judge_schema(t);

@@ -1,7 +1,5 @@
 // A run with an even mapping along which it is pushed; Sigma of decoded tables, and its size.
-ghost use Rattle.std.specs.Prelude.{◌≡◌, length};
 ghost use Rattle.instance.specs.Decoded.{RoomFor};
-ghost use Rattle.instance.specs.Ranges.{max_ends, kinds_of};
 ghost use Rattle.steps.specs.Migrated.{Migrates};
 ghost use Rattle.steps.specs.Opened.{opened_of, IsOpened};
 ghost use Rattle.meaning.specs.Changes.{even_run};
@@ -19,19 +17,13 @@ pub struct Run {
     pub tables: Instance,
 }
 
-// The sheet at place 4, judged by a list of kinds after those of S, T and the mapping, and the mapping's evenness.
-pub fn open_run(
-    opened: Opened,
-    i: &[u8],
-    kinds: &[u32],
-    links: &mut [u32],
-    values: &mut [u32],
-) -> Run
-    requires { IsOpened opened × RoomFor opened.source links.old values.old × (length kinds.now ≡ max_ends) }
-    ensures { RunOpens (kinds_of kinds.now) opened result links.new values.new (even_run (kinds_of kinds.now) (opened_of opened) i.now) }
+// The sheet at place 4, judged after those of S, T and the mapping, and the mapping's evenness.
+pub fn open_run(opened: Opened, i: &[u8], links: &mut [u32], values: &mut [u32]) -> Run
+    requires { IsOpened opened × RoomFor opened.source links.old values.old }
+    ensures { RunOpens opened result links.new values.new (even_run (opened_of opened) i.now) }
 {
     let source = opened.source;
-    let run = judge_instance(source, i, kinds, &mut *links, &mut *values);
+    let run = judge_instance(source, i, &mut *links, &mut *values);
     let first = opened.refusal;
     let sheets = first.or(run.fault, 4);
     if sheets.number == 0 {

@@ -163,7 +163,7 @@ The least time of a call over 12 rounds of 40 ms, in batches of at least 1 ms:
 
 fn table() {
     print!("{STATE}");
-    print!("{:30} {:>8}", "case", "bytes");
+    print!("{:28} {:>8}", "case", "bytes");
     ALL.iter().for_each(|(name, _)| print!(" {name:>12}"));
     println!();
     inputs().iter().for_each(line);
@@ -177,7 +177,7 @@ fn line(case: &Case) {
         versions.iter_mut().flatten().for_each(Timed::round);
     }
     let bytes: usize = (0..case.sheets.len()).map(|number| case.sheet(number).len()).sum();
-    print!("{:30} {bytes:>8}", case.name);
+    print!("{:28} {bytes:>8}", case.name);
     for version in versions {
         match version {
             Some(timed) => print!(" {:>9.0} ns", timed.least),

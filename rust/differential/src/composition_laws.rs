@@ -6,7 +6,7 @@
 use crate::hex;
 use crate::limit::each_within;
 use migration::{check_mapping, delta, sigma, Refusal};
-use reference::plain::{Instance, RANGES};
+use reference::plain::Instance;
 use std::fmt;
 use vectors::build::identity;
 use vectors::composable::Composable;
@@ -191,8 +191,7 @@ impl Tried<'_> {
 
     /// Whether a sheet over S has a link and a value.
     fn has_rows(&self, sheet: &[u8]) -> bool {
-        let s = &self.case.composable.schemas[0];
-        let rows = Instance::accept(s, &RANGES, sheet).expect("an instance");
+        let rows = Instance::accept(&self.case.composable.schemas[0], sheet).expect("an instance");
         rows.links.iter().any(|l| !l.is_empty()) && rows.values.iter().any(|v| !v.is_empty())
     }
 

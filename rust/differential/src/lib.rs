@@ -5,7 +5,6 @@
 #![warn(missing_docs)]
 
 pub mod composition_laws;
-pub mod kinds_laws;
 pub mod limit;
 pub mod pipe;
 pub mod program;
@@ -17,7 +16,6 @@ use std::time::Duration;
 use vectors::answer::{reference_outcome, Outcome, FILLING};
 use vectors::call::{Call, Case};
 use vectors::changes::Streams;
-use vectors::own_kinds_chance::{fixed_and_refused_with_kinds, own_kinds_by_chance};
 use vectors::random::Random;
 use vectors::report::Report;
 use vectors::stream::{fixed_and_refused, fixed_and_refused_changes, Chance};
@@ -61,7 +59,14 @@ pub struct Difference {
 
 impl fmt::Display for Difference {
     fn fmt(&self, out: &mut fmt::Formatter<'_>) -> fmt::Result {
-        write!(out, "{}", Told(&self.case))?;
+        writeln!(out, "{} ({})", self.case.call.name(), self.case.name)?;
+        for (place, sheet) in self.case.sheets.iter().enumerate() {
+            writeln!(out, "sheet {}: {}", place + 1, hex(sheet))?;
+        }
+        for number in &self.case.numbers {
+            writeln!(out, "number: {number}")?;
+        }
+        writeln!(out, "tray: {} bytes", self.case.tray)?;
         let told = |Outcome { answer, tray, run }: &Outcome| {
             let run = run.as_ref().map_or(String::new(), |run| format!(", run {}", hex(run)));
             format!("{answer:?}, tray {}{run}", hex(tray))
@@ -71,23 +76,6 @@ impl fmt::Display for Difference {
             Ok(outcome) => writeln!(out, "found: {}", told(outcome)),
             Err(fault) => writeln!(out, "found: {fault}"),
         }
-    }
-}
-
-/// A case with what it is lent, a line for each.
-struct Told<'a>(&'a Case);
-
-impl fmt::Display for Told<'_> {
-    fn fmt(&self, out: &mut fmt::Formatter<'_>) -> fmt::Result {
-        let Told(case) = self;
-        writeln!(out, "{} ({})", case.call.name(), case.name)?;
-        for (place, sheet) in case.sheets.iter().enumerate() {
-            writeln!(out, "sheet {}: {}", place + 1, hex(sheet))?;
-        }
-        for number in &case.numbers {
-            writeln!(out, "number: {number}")?;
-        }
-        writeln!(out, "tray: {} bytes", case.tray)
     }
 }
 
@@ -104,8 +92,8 @@ pub fn count_and_seed(words: &[String]) -> Option<(usize, u64)> {
     }
 }
 
-/// Every kind of case but changes of a run and second forms: the fixed ones, those made for a
-/// refusal each, then by chance; `count` in all, or as many as are fixed where that is more.
+/// Every kind of case but changes of a run: the fixed ones, those made for a refusal
+/// each, then by chance; `count` in all, or as many as are fixed where that is more.
 pub fn cases(seed: u64, count: usize) -> impl Iterator<Item = Case> {
     let first = fixed_and_refused(&mut Random::seeded(seed));
     let more = count.saturating_sub(first.len());
@@ -119,13 +107,6 @@ pub fn changes(seed: u64, count: usize) -> impl Iterator<Item = Case> {
     let first = fixed_and_refused_changes(&mut Random::seeded(seed));
     let more = count.saturating_sub(first.len());
     first.into_iter().chain(Streams::seeded(seed).take(more))
-}
-
-/// The same of the second forms, with whole and damaged kinds sheets.
-pub fn with_kinds(seed: u64, count: usize) -> impl Iterator<Item = Case> {
-    let first = fixed_and_refused_with_kinds(&mut Random::seeded(seed));
-    let more = count.saturating_sub(first.len());
-    first.into_iter().chain(own_kinds_by_chance(seed).take(more))
 }
 
 /// What the reference answers to a case, where the library answers the same.
@@ -264,25 +245,6 @@ pub fn call(call: Call, sheets: &[Vec<u8>], tray: &mut [u8]) -> Result<usize, Re
             query_into(s1, s2, s3, s4, f, g, h, run, tray)
         }
         (Call::Compose, [s, t, u, f, g]) => compose_into(s, t, u, f, g, tray),
-        (Call::DeltaWithKinds, [kinds, s, t, f, j]) => {
-            delta_with_kinds_into(kinds, s, t, f, j, tray)
-        }
-        (Call::SigmaWithKinds, [kinds, s, t, f, i]) => {
-            sigma_with_kinds_into(kinds, s, t, f, i, tray)
-        }
-        (Call::PiWithKinds, [kinds, s, t, f, i]) => pi_with_kinds_into(kinds, s, t, f, i, tray),
-        (Call::CheckPushedWithKinds, [kinds, s, t, f, run, book, list]) => {
-            check_pushed_with_kinds(kinds, s, t, f, run, book, list).map(|()| 0)
-        }
-        (Call::CheckRawWithKinds, [kinds, s, t, f, run, book, list]) => {
-            check_raw_with_kinds(kinds, s, t, f, run, book, list).map(|()| 0)
-        }
-        (Call::PushedToRawWithKinds, [kinds, s, t, f, run, book, list]) => {
-            pushed_to_raw_with_kinds_into(kinds, s, t, f, run, book, list, tray)
-        }
-        (Call::RawToPushedWithKinds, [kinds, s, t, f, run, book, list]) => {
-            raw_to_pushed_with_kinds_into(kinds, s, t, f, run, book, list, tray)
-        }
         _ => unreachable!("a call lent its sheets"),
     }
 }

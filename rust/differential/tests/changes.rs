@@ -4,7 +4,7 @@
 
 use differential::{agreed, changes, compare, library_outcome, make, Fault};
 use migration::{check_instance, check_pushed, pushed_to_raw, raw_to_pushed, sigma};
-use reference::plain::{Instance, Matching, Schema, RANGES};
+use reference::plain::{Instance, Matching, Schema};
 use vectors::answer::{reference_outcome, Outcome, FILLING};
 use vectors::call::{Call, Case};
 use vectors::changes::Streams;
@@ -109,7 +109,7 @@ fn the_run_is_changed_in_its_tray_alone() {
 /// The list in which each row of an instance is its own partner.
 fn each_to_itself(schema: &[u8], instance: &[u8]) -> Vec<u8> {
     let schema = Schema::accept(schema).expect("an accepted schema");
-    let rows = Instance::accept(&schema, &RANGES, instance).expect("an accepted instance").rows;
+    let rows = Instance::accept(&schema, instance).expect("an accepted instance").rows;
     Matching { partners: rows.into_iter().map(|count| (0..count).collect()).collect() }.to_sheet()
 }
 

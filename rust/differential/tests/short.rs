@@ -2,7 +2,7 @@
 
 use differential::pipe::{read_in_turn, Feed, LIMIT};
 use differential::program::{Program, PROGRAMS};
-use differential::{cases, compare, library_outcome, with_kinds};
+use differential::{cases, compare, library_outcome};
 use std::process::Command;
 use std::time::Duration;
 use vectors::answer::{reference_outcome, FILLING};
@@ -11,18 +11,6 @@ use vectors::call::Call;
 #[test]
 fn the_library_and_the_reference_agree() {
     match compare(cases(7, 6000)) {
-        Ok(report) => {
-            print!("{report}");
-            assert_eq!(report.total(), 6000);
-        }
-        Err(difference) => panic!("{difference}"),
-    }
-}
-
-/// The second forms, with whole and damaged kinds sheets.
-#[test]
-fn the_library_and_the_reference_agree_by_own_kinds() {
-    match compare(with_kinds(7, 6000)) {
         Ok(report) => {
             print!("{report}");
             assert_eq!(report.total(), 6000);

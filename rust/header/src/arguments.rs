@@ -22,14 +22,9 @@ pub enum Argument {
 }
 
 /// The names of a call's sheets, by place.  The length of a sheet has the sheet's
-/// name with `_len` after it.  A second form has a kinds sheet before those of its first.
-fn sheets(call: Call) -> Vec<&'static str> {
-    let kinds = call.takes_kinds().then_some("kinds");
-    kinds.into_iter().chain(of_first_form(call).iter().copied()).collect()
-}
-
-fn of_first_form(call: Call) -> &'static [&'static str] {
-    match call.first_form() {
+/// name with `_len` after it.
+fn sheets(call: Call) -> &'static [&'static str] {
+    match call {
         Call::CheckSchema => &["s"],
         Call::CheckMapping => &["s", "t", "f"],
         Call::CheckInstance => &["s", "i"],
@@ -44,7 +39,6 @@ fn of_first_form(call: Call) -> &'static [&'static str] {
         Call::AddRow => &["s", "t", "f", "run", "row"],
         Call::WithdrawRow => &["s", "t", "f", "run"],
         Call::Compose => &["s", "t", "u", "f", "g"],
-        second => unreachable!("{} is no first form", second.name()),
     }
 }
 

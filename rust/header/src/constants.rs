@@ -8,11 +8,11 @@ macro_rules! numbers {
     ($($name:ident)*) => { [$((stringify!($name), refusal::$name)),*] };
 }
 
-/// The papers' words "cut" to "bad kinds" as they stand in names of constants,
+/// The papers' words "cut" to "still held" as they stand in names of constants,
 /// each with its number.
-pub const REFUSALS: [(&str, u8); 20] = numbers! {
+pub const REFUSALS: [(&str, u8); 19] = numbers! {
     CUT TAIL COUNT STRAY RING CROWD MISFIT BROKEN_RULE DANGLING OFF_SCALE BENT_ROW UNEVEN UNPAIRED
-    WIDE OVERFULL SMALL_TRAY NO_MATCH ABSENT STILL_HELD BAD_KINDS
+    WIDE OVERFULL SMALL_TRAY NO_MATCH ABSENT STILL_HELD
 };
 
 /// The header's constant for a refusal.
@@ -36,19 +36,15 @@ pub const CHAIN_BYTES: &str = "MIGRATION_CHAIN_BYTES";
 /// The most bytes of a mapping sheet.
 pub const MAPPING_BYTES: &str = "MIGRATION_MAPPING_BYTES";
 
-/// The bytes of every kinds sheet.
-pub const KINDS_BYTES: &str = "MIGRATION_KINDS_BYTES";
-
 /// Names of the header and the wrapper's numbers of them.
 macro_rules! stacks {
     ($($name:ident)*) => { [$((concat!("MIGRATION_", stringify!($name)), migration::$name)),*] };
 }
 
 /// The bytes of stack that the calls need, which are tried where the wrapper is.
-pub const STACKS: [(&str, usize); 13] = stacks! {
+pub const STACKS: [(&str, usize); 12] = stacks! {
     STACK_CHECK_SCHEMA STACK_CHECK_MAPPING STACK_CHECK_INSTANCE STACK_FIRST_PATH STACK_PATH_CHAIN
-    STACK_DELTA STACK_SIGMA STACK_PI STACK_PI_WITH_KINDS STACK_QUERY STACK_COMPOSE STACK_MATCHINGS
-    STACK_CHANGES
+    STACK_DELTA STACK_SIGMA STACK_PI STACK_QUERY STACK_COMPOSE STACK_MATCHINGS STACK_CHANGES
 };
 
 /// The constants that are compared with the wrapper's numbers, since no call tells

@@ -1,23 +1,19 @@
-//! Trials of the header's six sizes: sheets of just so many bytes, and trays.
+//! Trials of the header's five sizes: sheets of just so many bytes, and trays.
 
 use crate::arguments::{RUN, TRAY};
-use crate::constants::{
-    CHAIN_BYTES, INSTANCE_BYTES, KINDS_BYTES, MAPPING_BYTES, MATCHING_BYTES, PATH_BYTES,
-};
+use crate::constants::{CHAIN_BYTES, INSTANCE_BYTES, MAPPING_BYTES, MATCHING_BYTES, PATH_BYTES};
 use crate::trials::Trial;
-use reference::plain::{Attribute, Instance, Row, Schema, RANGES};
+use reference::plain::{Attribute, Instance, Row, Schema};
 use vectors::build::{graph, identity, instance, list, mapping, path};
 use vectors::call::{Call, Case};
 use vectors::chains::longer_way;
 use vectors::compositions::longest_composable;
-use vectors::own_kinds::base_calls;
-use vectors::ranges::kinds_sheet;
 use vectors::trays::{Change, Trays};
 
-/// Trials of the six sizes.
+/// Trials of the five sizes.
 pub fn longest() -> Vec<Trial> {
     let instances = [longest_instances(), longest_queries(), longest_changes()].concat();
-    [instances, longest_lists(), longest_paths(), chains(), longest_mappings(), kinds()].concat()
+    [instances, longest_lists(), longest_paths(), chains(), longest_mappings()].concat()
 }
 
 /// The schema whose instances are the longest: 16 nodes, 32 edges and 16
@@ -188,18 +184,6 @@ fn longest_mappings() -> Vec<Trial> {
     });
     let short = composed("the longest mapping, a tray of a byte less", 1);
     [&[whole, short][..], &checked].concat()
-}
-
-/// Each second form, with kinds sheets of just so many bytes, one less and one more.
-fn kinds() -> Vec<Trial> {
-    let mut trials = Vec::new();
-    for base in base_calls() {
-        for (what, more, kinds) in around(&kinds_sheet(&RANGES)) {
-            let case = Case { name: format!("a kinds sheet, {what}"), ..base.clone() };
-            trials.push(Trial::new(case.with_kinds(kinds)).sized(1, KINDS_BYTES, more));
-        }
-    }
-    trials
 }
 
 /// A call with a list for a run of 512 rows.

@@ -43,7 +43,7 @@ fn refused(text: &str) -> String {
 fn a_wrong_number_is_found() {
     let text = header_text();
     let wrong = other_numbers(&text, &read(&text));
-    assert_eq!(wrong.len(), 2 * 39);
+    assert_eq!(wrong.len(), 2 * 36);
     for (place, change) in wrong.iter().enumerate() {
         found(change);
         if place % 2 == 0 {
@@ -140,7 +140,7 @@ fn what_is_not_tried_is_found() {
         assert!(text.contains(before), "{before}");
         assert_eq!(refused(&text.replacen(before, after, 1)), why);
     };
-    check("= 20 ", "= 20, MIGRATION_MORE = 21 ", "MIGRATION_MORE is not tried");
+    check("= 19 ", "= 19, MIGRATION_MORE = 20 ", "MIGRATION_MORE is not tried");
     check("MIGRATION_CUT = 1, ", "", "the header lacks MIGRATION_CUT");
     check("MIGRATION_TAIL", "MIGRATION_CUT", "MIGRATION_CUT stands twice");
     check(

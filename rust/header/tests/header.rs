@@ -6,8 +6,8 @@ mod common;
 use common::{header_text, repository, run};
 use header::arguments::export;
 use header::constants::{
-    constant, CHAIN_BYTES, INSTANCE_BYTES, KINDS_BYTES, MAPPING_BYTES, MATCHING_BYTES, PATH_BYTES,
-    REFUSALS, STACKS,
+    constant, CHAIN_BYTES, INSTANCE_BYTES, MAPPING_BYTES, MATCHING_BYTES, PATH_BYTES, REFUSALS,
+    STACKS,
 };
 use header::model::first_failure;
 use header::program::program;
@@ -47,15 +47,13 @@ fn every_refusal_of_the_papers_is_met() {
 /// each of 512 rows.  A path has 8 bits and 5 for each of at most 15 edges, a chain 8
 /// bits and 10 for each of at most 255 steps.  A mapping has 4 bits for each of at most 16
 /// nodes and 16 attributes, and for each of at most 32 edges 4 and those of a path's edges.
-/// A kinds sheet is "16 pairs of smallest and largest, 32 bits each".
 #[test]
 fn the_sizes_are_those_of_the_papers() {
     let (path, chain) = ((8 + 15 * 5 + 7) / 8, (8 + 255 * 10 + 7) / 8);
     let mapping = (16 * 4 + 32 * (4 + 15 * 5) + 16 * 4) / 8;
     let [instance, matching] = [(INSTANCE_BYTES, 51_220), (MATCHING_BYTES, 512 * 9 / 8)];
     let [path, chain] = [(PATH_BYTES, path), (CHAIN_BYTES, chain)];
-    let [mapping, kinds] = [(MAPPING_BYTES, mapping), (KINDS_BYTES, 16 * 2 * 32 / 8)];
-    for (name, bytes) in [instance, matching, path, chain, mapping, kinds] {
+    for (name, bytes) in [instance, matching, path, chain, (MAPPING_BYTES, mapping)] {
         for trial in trials() {
             let places = 0..=trial.case.sheets.len();
             let sized = places.filter_map(|place| Some((place, trial.size(place)?)));
@@ -101,7 +99,6 @@ fn the_wrapper_has_the_same_words_and_sizes() {
     assert_eq!(header.value(PATH_BYTES), Some(migration::MOST_PATH_BYTES as u64));
     assert_eq!(header.value(CHAIN_BYTES), Some(migration::MOST_CHAIN_BYTES as u64));
     assert_eq!(header.value(MAPPING_BYTES), Some(migration::MOST_MAPPING_BYTES as u64));
-    assert_eq!(header.value(KINDS_BYTES), Some(migration::KINDS_BYTES as u64));
     for (name, bytes) in STACKS {
         assert_eq!(header.value(name), Some(bytes as u64), "{name}");
         assert_eq!(bytes % 1024, 0, "{name}");

@@ -29,7 +29,7 @@ mod tests {
 
     #[test]
     fn every_refusal_is_read_back() {
-        for number in 1..=20 {
+        for number in 1..=19 {
             for place in 0..=8 {
                 let answer = REFUSED + 256 * u64::from(number) + u64::from(place);
                 assert_eq!(read(answer), Err(Refusal { number, place }));

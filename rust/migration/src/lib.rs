@@ -11,11 +11,6 @@
 //! gives the sheet's length; the bytes of the tray beyond it keep their values.
 //! [`add_row`] and [`withdraw_row`] change a run in the tray in which it stands.
 //!
-//! Delta, Sigma, Pi, both checkers and both turnings take an operator's own ranges of the
-//! kinds in place of the built-in list, as a kinds sheet, where their names have
-//! `with_kinds` in them ([`sigma_with_kinds`] shows one); all other calls judge by the
-//! built-in list.
-//!
 //! Document 01's base example, pushed by Sigma:
 //!
 //! ```
@@ -37,8 +32,7 @@
 //! The calls have their working arrays on the stack.  A call needs at most as many
 //! bytes of it as its constant says ([`STACK_PI`] and the others), whatever it is
 //! lent, below the frame that makes it; a thread that makes the call needs them
-//! besides what its own code needs.  A call that is lent a kinds sheet has the constant of
-//! its first form, but for [`pi_with_kinds`].
+//! besides what its own code needs.
 //!
 //! # Where the answers come from
 //!
@@ -59,7 +53,6 @@ mod migrations;
 mod query;
 mod refusal;
 mod rows;
-mod with_kinds;
 
 pub use chain::{path_chain, path_chain_into};
 pub use checks::{check_instance, check_mapping, check_schema};
@@ -72,12 +65,6 @@ pub use migrations::{delta, delta_into, pi, pi_into, sigma, sigma_into};
 pub use query::{query, query_into};
 pub use refusal::Refusal;
 pub use rows::{add_row, withdraw_row, Changed};
-pub use with_kinds::{
-    check_pushed_with_kinds, check_raw_with_kinds, delta_with_kinds, delta_with_kinds_into,
-    pi_with_kinds, pi_with_kinds_into, pushed_to_raw_with_kinds, pushed_to_raw_with_kinds_into,
-    raw_to_pushed_with_kinds, raw_to_pushed_with_kinds_into, sigma_with_kinds,
-    sigma_with_kinds_into,
-};
 
 /// The most bytes that an instance sheet has: "An instance sheet is at most
 /// 51,220 bytes."  A tray of this size holds every result of Delta, Sigma, Pi and
@@ -101,9 +88,6 @@ pub const MOST_CHAIN_BYTES: usize = 320;
 /// [`compose`].
 pub const MOST_MAPPING_BYTES: usize = 332;
 
-/// The bytes of every kinds sheet: 16 pairs of smallest and largest, 32 bits each.
-pub const KINDS_BYTES: usize = 128;
-
 /// The stack that [`check_schema`] needs.
 pub const STACK_CHECK_SCHEMA: usize = 16 * 1024;
 
@@ -119,17 +103,14 @@ pub const STACK_FIRST_PATH: usize = 20 * 1024;
 /// The stack that [`path_chain`] needs.
 pub const STACK_PATH_CHAIN: usize = 32 * 1024;
 
-/// The stack that [`delta`] needs, and [`delta_with_kinds`].
+/// The stack that [`delta`] needs.
 pub const STACK_DELTA: usize = 248 * 1024;
 
-/// The stack that [`sigma`] needs, and [`sigma_with_kinds`].
+/// The stack that [`sigma`] needs.
 pub const STACK_SIGMA: usize = 256 * 1024;
 
 /// The stack that [`pi`] needs.
 pub const STACK_PI: usize = 512 * 1024;
-
-/// The stack that [`pi_with_kinds`] needs.
-pub const STACK_PI_WITH_KINDS: usize = 536 * 1024;
 
 /// The stack that [`query`] needs.
 pub const STACK_QUERY: usize = 672 * 1024;
@@ -137,7 +118,7 @@ pub const STACK_QUERY: usize = 672 * 1024;
 /// The stack that [`compose`] needs.
 pub const STACK_COMPOSE: usize = 40 * 1024;
 
-/// The stack that each of the two checkers and the two turnings needs, in both forms.
+/// The stack that each of the two checkers and the two turnings needs.
 pub const STACK_MATCHINGS: usize = 392 * 1024;
 
 /// The stack that each of [`add_row`] and [`withdraw_row`] needs.

@@ -18,7 +18,7 @@ use std::fmt;
 /// ```
 #[derive(Debug, Clone, Copy, PartialEq, Eq, PartialOrd, Ord, Hash)]
 pub struct Refusal {
-    /// The first number that applies in the papers' order, 1 to 20.
+    /// The first number that applies in the papers' order, 1 to 19.
     pub number: u8,
     /// The place of the sheet among those lent, counted from 1; 0 where it is
     /// about all sheets together, or about a change itself.
@@ -27,11 +27,11 @@ pub struct Refusal {
 
 /// Word and condition by number, as in document 01's table; 10 as request C-12 of
 /// document 02 has it, 18 and 19 as C-16 has them, whose changes are added to 12, 15 and
-/// 16, and 20 as C-18 has it.  In 7 and 8 S and T are the schemas that the mapping goes from and to: of the query
+/// 16.  In 7 and 8 S and T are the schemas that the mapping goes from and to: of the query
 /// S2 and S1 at place 5, S2 and S3 at 6, S3 and S4 at 7; of composing T and U at place 5.
 /// Of the query 12 is about Sigma along H, 13 and 14 about Pi along G.  Of a change of a
 /// run 12 is about its Sigma, 15 about a row that is added to 512, 16 about either tray.
-const TABLE: [(&str, &str); 20] = [
+const TABLE: [(&str, &str); 19] = [
     ("cut", "the bits end before the last field does"),
     ("tail", "a filling bit is 1, or a byte follows"),
     ("count", "a count, or the sum of the row counts, beyond its limit, or no node"),
@@ -59,7 +59,6 @@ const TABLE: [(&str, &str); 20] = [
     ("no match", "the list is not a matching"),
     ("absent", "the named table or row does not exist"),
     ("still held", "a row to be withdrawn that another row links to"),
-    ("bad kinds", "a smallest above its largest, or kind 15 not 0 to 0"),
 ];
 
 impl Refusal {
@@ -108,17 +107,17 @@ mod tests {
 
     #[test]
     fn each_listed_number_has_its_own_word() {
-        let words: Vec<_> = (1..=20).map(|number| Refusal { number, place: 0 }.word()).collect();
+        let words: Vec<_> = (1..=19).map(|number| Refusal { number, place: 0 }.word()).collect();
         let mut distinct = words.clone();
         distinct.sort();
         distinct.dedup();
-        assert_eq!(distinct.len(), 20);
+        assert_eq!(distinct.len(), 19);
         assert!(!words.contains(&"unlisted"));
     }
 
     #[test]
     fn a_number_outside_the_list_is_told_as_such() {
-        for number in [0, 21, 255] {
+        for number in [0, 20, 255] {
             assert_eq!(Refusal { number, place: 0 }.word(), "unlisted");
         }
     }

@@ -4,7 +4,7 @@
 mod painted;
 
 use migration::*;
-use reference::plain::{Edge, Instance, Mapping, Schema, RANGES};
+use reference::plain::{Edge, Instance, Mapping, Schema};
 use std::collections::BTreeMap;
 use std::env;
 use std::process::Command;
@@ -15,17 +15,12 @@ use vectors::changes::Streams;
 use vectors::digs::Dig;
 use vectors::full::{base, full};
 use vectors::hard::hard_sheets;
-use vectors::own_kinds_chance::fixed_and_refused_with_kinds;
 use vectors::random::Random;
-use vectors::ranges::kinds_sheet;
 use vectors::stream::{fixed_and_refused, fixed_and_refused_changes};
 
-/// What a call may need: a second form what its first form may, but for Pi.
+/// What a call may need.
 fn stack(call: Call) -> usize {
-    if call == Call::PiWithKinds {
-        return STACK_PI_WITH_KINDS;
-    }
-    match call.first_form() {
+    match call {
         Call::CheckSchema => STACK_CHECK_SCHEMA,
         Call::CheckMapping => STACK_CHECK_MAPPING,
         Call::CheckInstance => STACK_CHECK_INSTANCE,
@@ -40,20 +35,17 @@ fn stack(call: Call) -> usize {
             STACK_MATCHINGS
         }
         Call::AddRow | Call::WithdrawRow => STACK_CHANGES,
-        second => unreachable!("{} is no first form", second.name()),
     }
 }
 
 /// The cases that a call may need most for: the base example, full size, each
 /// limit, each refusal, the longest sheets, the schemas with the longest paths; for
-/// both forms of Pi, and for the query between identities, the hard sheets that are soon
-/// answered, and 64 components; for the changes a hundred by chance.
+/// Pi, and for the query between identities, the hard sheets that are soon answered, and
+/// 64 components; for the changes a hundred by chance.
 fn cases(call: Call) -> Vec<Case> {
     let fixed = if call.is_change() {
         let by_chance = Streams::seeded(1).filter(|case| case.call == call).take(100);
         fixed_and_refused_changes(&mut Random::seeded(1)).into_iter().chain(by_chance).collect()
-    } else if call.takes_kinds() {
-        fixed_and_refused_with_kinds(&mut Random::seeded(1))
     } else {
         fixed_and_refused(&mut Random::seeded(1))
     };
@@ -62,7 +54,6 @@ fn cases(call: Call) -> Vec<Case> {
     let hard = soon.map(|sheet| sheet.case).chain(deep());
     match call {
         Call::Pi => cases.extend(hard),
-        Call::PiWithKinds => cases.extend(hard.map(|pi| pi.with_kinds(kinds_sheet(&RANGES)))),
         Call::Query => cases.extend(hard.map(|case| dug(&case))),
         _ => {}
     }
@@ -75,7 +66,7 @@ fn dug(pi: &Case) -> Case {
     let [s, t, g, run] = &pi.sheets[..] else { unreachable!("a call of pi") };
     let [s, t] = [s, t].map(|sheet| Schema::accept(sheet).expect("an accepted schema"));
     let g = Mapping::accept(&s, &t, g).expect("an accepted mapping");
-    let run = Instance::accept(&s, &RANGES, run).expect("an accepted run");
+    let run = Instance::accept(&s, run).expect("an accepted run");
     let (f, h) = (identity(&s), identity(&t));
     Dig { schemas: [s.clone(), s, t.clone(), t], f, g, h, run }.case(pi.name.clone())
 }
@@ -144,7 +135,7 @@ fn each_call_needs_no_more_stack_than_is_said() {
         Call::ALL.into_iter().map(|call| (call, most_needed(call))).collect();
     for (call, (need, case)) in &needs {
         let (name, most) = (call.name(), stack(*call));
-        println!("{name:<24} {need:>8} bytes of stack, of {most:>8}; most for: {case}");
+        println!("{name:<16} {need:>8} bytes of stack, of {most:>8}; most for: {case}");
     }
     for (call, (need, case)) in &needs {
         let (name, most) = (call.name(), stack(*call));

@@ -4,20 +4,23 @@
 //! last 16. A refusal is the number and the sheet's place counted from 1 (0 for
 //! 12 to 16)."  The calls of requests C-11 and C-14 of document 02 keep to that
 //! order; the query of C-15, the changes of C-16 and the composing of C-17 have
-//! orders of their own.  All calls here judge values by the built-in list of kinds;
-//! the second forms of C-18 are in [`crate::with_kinds`].
+//! orders of their own.
 
 use crate::chains::Chain;
 use crate::composed::composed;
 use crate::instance::Instance;
-use crate::kinds::RANGES;
 use crate::mapping::Mapping;
+use crate::matching::Matching;
 use crate::migrate::{self, Gathering, Pushing};
 use crate::paths::Path;
-use crate::ranged::{self, Mapped};
-use crate::refusal::{at, demand, Judged, Refusal, SMALL_TRAY};
+use crate::refusal::{demand, Judged, Refusal, SMALL_TRAY};
 use crate::rows;
 use crate::schema::Schema;
+
+/// A judgement with the place of the sheet it is about.
+fn at<T>(place: u8, judged: Judged<T>) -> Result<T, Refusal> {
+    judged.map_err(|number| Refusal { number, place })
+}
 
 /// Checks a schema sheet (place 1).
 pub fn check_schema(s: &[u8]) -> Result<(), Refusal> {
@@ -32,7 +35,7 @@ pub fn check_mapping(s: &[u8], t: &[u8], f: &[u8]) -> Result<(), Refusal> {
 /// Checks an instance sheet (place 2) over a schema.
 pub fn check_instance(s: &[u8], i: &[u8]) -> Result<(), Refusal> {
     let schema = at(1, Schema::accept(s))?;
-    at(2, Instance::accept(&schema, &RANGES, i)).map(|_| ())
+    at(2, Instance::accept(&schema, i)).map(|_| ())
 }
 
 /// "The path question now takes one path and yields, as a path sheet, the first
@@ -61,17 +64,35 @@ fn accept_path(s: &[u8], p: &[u8]) -> Result<(Schema, Path), Refusal> {
 
 /// Delta of a T-instance (place 4): the result's whole sheet.
 pub fn delta(s: &[u8], t: &[u8], f: &[u8], j: &[u8]) -> Result<Vec<u8>, Refusal> {
-    ranged::delta(&RANGES, [s, t, f, j])
+    let mapped = Mapped::accept(s, t, f)?;
+    let j = at(4, Instance::accept(&mapped.t, j))?;
+    mapped.delta(&j).map(|result| result.to_sheet())
 }
 
 /// Sigma of an S-instance (place 4): the result's whole sheet.
 pub fn sigma(s: &[u8], t: &[u8], f: &[u8], i: &[u8]) -> Result<Vec<u8>, Refusal> {
-    ranged::sigma(&RANGES, [s, t, f, i])
+    sigma_decoded(s, t, f, i).map(|(_, result)| result.to_sheet())
+}
+
+/// Sigma of an S-instance (place 4), decoded, with T.
+pub(crate) fn sigma_decoded(
+    s: &[u8],
+    t: &[u8],
+    f: &[u8],
+    i: &[u8],
+) -> Result<(Schema, Instance), Refusal> {
+    let mapped = Mapped::accept(s, t, f)?;
+    let i = at(4, Instance::accept(&mapped.s, i))?;
+    let result = mapped.sigma(&i)?;
+    Ok((mapped.t, result))
 }
 
 /// Pi of an S-instance (place 4): the result's whole sheet.
 pub fn pi(s: &[u8], t: &[u8], f: &[u8], i: &[u8]) -> Result<Vec<u8>, Refusal> {
-    ranged::pi(&RANGES, [s, t, f, i])
+    let mapped = Mapped::accept(s, t, f)?;
+    let i = at(4, Instance::accept(&mapped.s, i))?;
+    let result = at(0, migrate::pi(&mapped.s, &mapped.t, &mapped.f, &i))?;
+    Ok(result.to_sheet())
 }
 
 /// The query of request C-15 of document 02: it "takes four schemas, three
@@ -109,7 +130,7 @@ pub(crate) fn query_decoded(sheets: [&[u8]; 8]) -> Result<(Schema, Instance), Re
     let f = at(5, Mapping::accept(&s2, &s1, f))?;
     let g = at(6, Mapping::accept(&s2, &s3, g))?;
     let h = at(7, Mapping::accept(&s3, &s4, h))?;
-    let run = at(8, Instance::accept(&s1, &RANGES, run))?;
+    let run = at(8, Instance::accept(&s1, run))?;
     let joining = at(0, Gathering::along(&s2, &s3, &g))?;
     let uniting = at(0, Pushing::along(&s3, &s4, &h))?;
     let projected = at(0, migrate::delta(&s2, &f, &run))?;
@@ -142,7 +163,7 @@ pub fn check_pushed(
     book: &[u8],
     list: &[u8],
 ) -> Result<(), Refusal> {
-    ranged::check_pushed(&RANGES, [s, t, f, run, book, list])
+    Sides::accept(s, t, f, run, book)?.pushed_matching(list).map(|_| ())
 }
 
 /// The raw side's checker: the list (place 6) is a matching from the run (place
@@ -155,7 +176,7 @@ pub fn check_raw(
     book: &[u8],
     list: &[u8],
 ) -> Result<(), Refusal> {
-    ranged::check_raw(&RANGES, [s, t, f, run, book, list])
+    Sides::accept(s, t, f, run, book)?.raw_matching(list).map(|_| ())
 }
 
 /// Turns a matching of the pushed side into one of the raw side: the result's
@@ -168,7 +189,9 @@ pub fn pushed_to_raw(
     book: &[u8],
     list: &[u8],
 ) -> Result<Vec<u8>, Refusal> {
-    ranged::pushed_to_raw(&RANGES, [s, t, f, run, book, list])
+    let sides = Sides::accept(s, t, f, run, book)?;
+    let pushed = sides.pushed_matching(list)?;
+    Ok(pushed.to_raw(&sides.mapped.f, &sides.run).to_sheet())
 }
 
 /// Turns a matching of the raw side into one of the pushed side: the result's
@@ -181,7 +204,9 @@ pub fn raw_to_pushed(
     book: &[u8],
     list: &[u8],
 ) -> Result<Vec<u8>, Refusal> {
-    ranged::raw_to_pushed(&RANGES, [s, t, f, run, book, list])
+    let sides = Sides::accept(s, t, f, run, book)?;
+    let raw = sides.raw_matching(list)?;
+    Ok(raw.to_pushed(&sides.mapped.t, &sides.mapped.f).to_sheet())
 }
 
 /// The whole sheets after an accepted change of request C-16 of document 02.
@@ -240,7 +265,7 @@ fn changed(
 ) -> Result<ChangedSheets, Refusal> {
     let [s, t, f, run] = sheets;
     let Mapped { s, t, f } = Mapped::accept(s, t, f)?;
-    let run = at(4, Instance::accept(&s, &RANGES, run))?;
+    let run = at(4, Instance::accept(&s, run))?;
     let pushing = at(0, Pushing::along(&s, &t, &f))?;
     let run = at(0, change(&s, &run))?;
     let pushed = at(0, pushing.of(&run))?;
@@ -285,5 +310,62 @@ pub fn into_tray_or_none(
     match result? {
         Some(sheet) => into_tray(Ok(sheet), tray),
         None => Ok(0),
+    }
+}
+
+/// Accepted S, T and mapping: places 1 to 3 of most calls.
+struct Mapped {
+    s: Schema,
+    t: Schema,
+    f: Mapping,
+}
+
+impl Mapped {
+    fn accept(s: &[u8], t: &[u8], f: &[u8]) -> Result<Self, Refusal> {
+        let s = at(1, Schema::accept(s))?;
+        let t = at(2, Schema::accept(t))?;
+        let f = at(3, Mapping::accept(&s, &t, f))?;
+        Ok(Mapped { s, t, f })
+    }
+
+    fn delta(&self, j: &Instance) -> Result<Instance, Refusal> {
+        at(0, migrate::delta(&self.s, &self.f, j))
+    }
+
+    fn sigma(&self, i: &Instance) -> Result<Instance, Refusal> {
+        at(0, migrate::sigma(&self.s, &self.t, &self.f, i))
+    }
+}
+
+/// The two sides of checkers and turnings: "The pushed side goes from Sigma's
+/// result to the book, the raw side from the run to Delta's result."
+struct Sides {
+    mapped: Mapped,
+    run: Instance,
+    book: Instance,
+    sigma_of_run: Instance,
+    delta_of_book: Instance,
+}
+
+impl Sides {
+    /// "Both checkers and both turnings take S, T, mapping, run, book, matching
+    /// and make the same tests, 15 for either migrated table."
+    fn accept(s: &[u8], t: &[u8], f: &[u8], run: &[u8], book: &[u8]) -> Result<Self, Refusal> {
+        let mapped = Mapped::accept(s, t, f)?;
+        let run = at(4, Instance::accept(&mapped.s, run))?;
+        let book = at(5, Instance::accept(&mapped.t, book))?;
+        let sigma_of_run = mapped.sigma(&run)?;
+        let delta_of_book = mapped.delta(&book)?;
+        Ok(Sides { mapped, run, book, sigma_of_run, delta_of_book })
+    }
+
+    /// The list as a matching of the pushed side: 1, 2, 17 at place 6.
+    fn pushed_matching(&self, list: &[u8]) -> Result<Matching, Refusal> {
+        at(6, Matching::accept(&self.mapped.t, &self.sigma_of_run, &self.book, list))
+    }
+
+    /// The list as a matching of the raw side: 1, 2, 17 at place 6.
+    fn raw_matching(&self, list: &[u8]) -> Result<Matching, Refusal> {
+        at(6, Matching::accept(&self.mapped.s, &self.run, &self.delta_of_book, list))
     }
 }

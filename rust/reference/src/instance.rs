@@ -2,10 +2,34 @@
 //! and the value in each column.
 
 use crate::bits::{BitReader, BitWriter};
-use crate::kinds::Ranges;
 use crate::paths::Path;
 use crate::refusal::{demand, Judged, BENT_ROW, COUNT, DANGLING, OFF_SCALE, OVERFULL};
 use crate::schema::{Equation, Schema};
+use std::ops::RangeInclusive;
+
+/// Each kind's smallest and largest value, by kind.  Document 01 has "Kinds and
+/// largest value (smallest 0)" and a list, of which request C-12 of document 02
+/// changes one entry: "twelve o'clock is written 720 and never 0. Kind 2
+/// therefore runs from 1 to 720. A kind now has a smallest value as well as a
+/// largest".
+pub const RANGES: [RangeInclusive<u32>; 16] = [
+    0..=4294967295, // 0 plain
+    0..=4294967295, // 1 station in mm
+    1..=720,        // 2 clock in minutes
+    0..=1000,       // 3 depth in thousandths of wall
+    0..=20000,      // 4 length mm
+    0..=5000,       // 5 width mm
+    0..=5000,       // 6 wall in 0.01 mm
+    0..=1600,       // 7 diameter mm
+    0..=25000,      // 8 pressure kPa
+    0..=4000,       // 9 temperature 0.1 K
+    0..=65535,      // 10 day
+    0..=86399,      // 11 second of day
+    0..=10000,      // 12 speed mm/s
+    0..=4294967295, // 13 identifier
+    0..=1,          // 14 flag
+    0..=0,          // 15 unused
+];
 
 /// A decoded instance sheet.
 #[derive(Debug, Clone, PartialEq, Eq)]
@@ -22,12 +46,12 @@ impl Instance {
     /// "512 rows in all"
     pub const MOST_ROWS: usize = 512;
 
-    /// Decodes and judges an instance sheet over an accepted schema and a list of
-    /// ranges: 1 in the counts, 3, 1 in the rest, 2, then 9, 10 and 11, each over
-    /// the whole sheet.
-    pub fn accept(schema: &Schema, ranges: &Ranges, sheet: &[u8]) -> Judged<Self> {
+    /// Decodes and judges an instance sheet over an accepted schema: 1 in the
+    /// counts, 3, 1 in the rest, 2, then 9, 10 and 11, each over the whole
+    /// sheet.
+    pub fn accept(schema: &Schema, sheet: &[u8]) -> Judged<Self> {
         let instance = Self::read(schema, sheet)?;
-        instance.check(schema, ranges)?;
+        instance.check(schema)?;
         Ok(instance)
     }
 
@@ -52,9 +76,9 @@ impl Instance {
 
     /// Judges the decoded instance: 9, then 10, then 11, each over the whole of
     /// it.
-    pub(crate) fn check(&self, schema: &Schema, ranges: &Ranges) -> Judged<()> {
+    pub(crate) fn check(&self, schema: &Schema) -> Judged<()> {
         demand(self.has_all_targets(schema), DANGLING)?;
-        demand(self.is_on_scale(schema, ranges), OFF_SCALE)?;
+        demand(self.is_on_scale(schema), OFF_SCALE)?;
         demand(self.obeys_equations(schema), BENT_ROW)
     }
 
@@ -66,10 +90,10 @@ impl Instance {
 
     /// No value below its kind's smallest or above its kind's largest: "10 is
     /// given below the one or above the other."
-    fn is_on_scale(&self, schema: &Schema, ranges: &Ranges) -> bool {
+    fn is_on_scale(&self, schema: &Schema) -> bool {
         let mut columns = self.values.iter().zip(&schema.attributes);
         columns.all(|(values, attribute)| {
-            values.iter().all(|&value| ranges[attribute.kind].contains(&value))
+            values.iter().all(|&value| RANGES[attribute.kind].contains(&value))
         })
     }
 

@@ -1,8 +1,8 @@
 //! A naive reference implementation of document 01, "Delta, Sigma and Pi for
-//! inspection run records", and of requests C-11, C-12, C-14, C-15, C-16, C-17 and
-//! C-18 of document 02, "Which rules made these paths equal", "Twelve o'clock is 720",
-//! "The first path of a class", "The dig sheet", "Rows that come and go", "Two hops or
-//! one" and "The operator's own kinds".
+//! inspection run records", and of requests C-11, C-12, C-14, C-15, C-16 and C-17 of
+//! document 02, "Which rules made these paths equal", "Twelve o'clock is 720", "The
+//! first path of a class", "The dig sheet", "Rows that come and go" and "Two hops or
+//! one".
 //!
 //! It is written from the definitions, clarity before speed: equal paths are
 //! found by searching chains of steps, and the first of them stands for all;
@@ -27,17 +27,14 @@ pub mod composed;
 pub mod evenness;
 pub mod families;
 pub mod instance;
-pub mod kinds;
 pub mod mapping;
 pub mod matching;
 pub mod migrate;
 pub mod paths;
 pub mod program;
-mod ranged;
 pub mod refusal;
 pub mod rows;
 pub mod schema;
-pub mod with_kinds;
 
 pub use calls::{
     add_row, check_instance, check_mapping, check_pushed, check_raw, check_schema, compose, delta,
@@ -46,22 +43,17 @@ pub use calls::{
 };
 pub use program::{dig, push};
 pub use refusal::Refusal;
-pub use with_kinds::{
-    check_pushed_with_kinds, check_raw_with_kinds, delta_with_kinds, pi_with_kinds,
-    pushed_to_raw_with_kinds, raw_to_pushed_with_kinds, sigma_with_kinds,
-};
 
 /// The decoded sheets as plain types with public fields.
 ///
-/// Schemas, paths, mappings, instances, matchings and kinds each have a `to_sheet`
+/// Schemas, paths, mappings, instances and matchings each have a `to_sheet`
 /// method that encodes them, whether or not the sheet would be accepted, and an
 /// `accept` function that decodes and judges a sheet.  A row to be added has the
 /// `to_sheet` method; it is judged with the run, by [`crate::rows::added`].  A chain
 /// is never lent: it has the `to_sheet` method alone.
 pub mod plain {
     pub use crate::chains::{Chain, Step};
-    pub use crate::instance::Instance;
-    pub use crate::kinds::{Kinds, Ranges, RANGES};
+    pub use crate::instance::{Instance, RANGES};
     pub use crate::mapping::Mapping;
     pub use crate::matching::Matching;
     pub use crate::paths::Path;

@@ -1,10 +1,8 @@
 //! The programs: the push program, Sigma of the run on standard input, as text,
 //! and the dig sheet of request C-15 of document 02, the query of the run.
 
-use crate::calls::query_decoded;
+use crate::calls::{query_decoded, sigma_decoded};
 use crate::instance::Instance;
-use crate::kinds::RANGES;
-use crate::ranged::sigma_decoded;
 use crate::refusal::Refusal;
 use crate::schema::Schema;
 
@@ -12,7 +10,8 @@ use crate::schema::Schema;
 /// and run from standard input, each after its 16-bit byte length, most
 /// significant byte first".  Every line ends with a newline.
 pub fn push(input: &[u8]) -> Vec<u8> {
-    text(sigma_decoded(&RANGES, first_sheets(input))).into_bytes()
+    let [s, t, f, run] = first_sheets(input);
+    text(sigma_decoded(s, t, f, run)).into_bytes()
 }
 
 /// The text that the dig sheet's program prints for its whole input: "It reads

@@ -1,13 +1,12 @@
 //! The numbers of document 01's table "Why a sheet is sent back", and those that
-//! requests C-16 and C-18 of document 02 add.
+//! request C-16 of document 02 adds.
 
 /// "A refusal is the number and the sheet's place counted from 1 (0 for 12 to
 /// 16)."  By request C-16 "the tests of the change itself have place 0", whatever
-/// their number.  By request C-18 a kinds sheet "is judged before S, places count it
-/// as sheet 1".
+/// their number.
 #[derive(Debug, Clone, Copy, PartialEq, Eq, Hash)]
 pub struct Refusal {
-    /// The first number that applies, 1 to 20.
+    /// The first number that applies, 1 to 19.
     pub number: u8,
     /// The refused sheet's place in judging order, or 0.
     pub place: u8,
@@ -40,8 +39,7 @@ pub const BROKEN_RULE: u8 = 8;
 pub const DANGLING: u8 = 9;
 /// "a value above its kind's largest", and by request C-12 of document 02 one
 /// below its smallest too: "A kind now has a smallest value as well as a
-/// largest, and 10 is given below the one or above the other."  By request C-18 the
-/// ranges may be the operator's own, "in place of the built-in list".
+/// largest, and 10 is given below the one or above the other."
 pub const OFF_SCALE: u8 = 10;
 /// "a row where the two sides of an equation lead to different rows"
 pub const BENT_ROW: u8 = 11;
@@ -62,8 +60,6 @@ pub const NO_MATCH: u8 = 17;
 pub const ABSENT: u8 = 18;
 /// "still held, a row to be withdrawn that another row links to"
 pub const STILL_HELD: u8 = 19;
-/// "bad kinds, a smallest above its largest or kind 15 not 0 to 0"
-pub const BAD_KINDS: u8 = 20;
 
 /// The given number if `holds` is false.
 pub fn demand(holds: bool, number: u8) -> Judged<()> {
@@ -72,9 +68,4 @@ pub fn demand(holds: bool, number: u8) -> Judged<()> {
     } else {
         Err(number)
     }
-}
-
-/// A judgement with the place of the sheet it is about.
-pub(crate) fn at<T>(place: u8, judged: Judged<T>) -> Result<T, Refusal> {
-    judged.map_err(|number| Refusal { number, place })
 }

@@ -3,7 +3,6 @@
 
 use crate::bits::{BitReader, BitWriter};
 use crate::instance::{read_values, Instance};
-use crate::kinds::RANGES;
 use crate::refusal::{demand, Judged, ABSENT, STILL_HELD};
 use crate::schema::Schema;
 
@@ -52,7 +51,7 @@ pub fn added(schema: &Schema, run: &Instance, table: usize, sheet: &[u8]) -> Jud
     demand(table < schema.nodes, ABSENT)?;
     let row = Row::read(schema, table, sheet)?;
     let changed = with_row(schema, run, table, &row);
-    changed.check(schema, &RANGES)?;
+    changed.check(schema)?;
     changed.unless_overfull()
 }
 

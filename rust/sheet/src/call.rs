@@ -5,8 +5,7 @@ use migration::{
     MOST_CHAIN_BYTES, MOST_INSTANCE_BYTES, MOST_MAPPING_BYTES, MOST_MATCHING_BYTES, MOST_PATH_BYTES,
 };
 
-/// The proved calls, and the tool's own questions whether a list of kinds is accepted and
-/// whether two paths are equal.
+/// The proved calls, and the tool's own question whether two paths are equal.
 #[derive(Debug, Clone, Copy, PartialEq, Eq, Hash)]
 pub enum Call {
     /// Checks a schema.
@@ -15,8 +14,6 @@ pub enum Call {
     CheckMapping,
     /// Checks an instance.
     CheckInstance,
-    /// Checks a list of kinds: whether a second form, lent nothing else, sends it back.
-    CheckKinds,
     /// The first path that is equal to a path.
     FirstPath,
     /// Whether two paths are equal: whether `FirstPath` answers the same for both.
@@ -60,8 +57,6 @@ pub enum Role {
     Mapping,
     /// The mapping of T to U.
     G,
-    /// The operator's list of kinds.
-    Kinds,
     /// An instance of S, or of a query's S1.
     Run,
     /// An instance of T.
@@ -79,14 +74,12 @@ pub enum Role {
 }
 
 impl Call {
-    /// The call's name, of its first form where it has two; of the tool's own questions
-    /// the command's.
+    /// The call's name; of the tool's own question the command's.
     pub fn name(self) -> &'static str {
         match self {
             Call::CheckSchema => "check_schema",
             Call::CheckMapping => "check_mapping",
             Call::CheckInstance => "check_instance",
-            Call::CheckKinds => "check kinds",
             Call::FirstPath => "first_path",
             Call::SamePath => "same-path",
             Call::PathChain => "path_chain",
@@ -104,30 +97,14 @@ impl Call {
         }
     }
 
-    /// Whether it has a second form, which takes a kinds sheet before the others.
-    pub fn takes_kinds(self) -> bool {
-        matches!(
-            self,
-            Call::Delta
-                | Call::Sigma
-                | Call::Pi
-                | Call::CheckPushed
-                | Call::CheckRaw
-                | Call::PushedToRaw
-                | Call::RawToPushed
-        )
-    }
-
-    /// What the sheets are, in the order of their places, of the first form where it has
-    /// two.
+    /// What the sheets are, in the order of their places.
     pub fn roles(self) -> &'static [Role] {
-        use Role::{Along, Book, Kinds, List, Mapping, Run, Schema, G, P, Q, S, T, U};
+        use Role::{Along, Book, List, Mapping, Run, Schema, G, P, Q, S, T, U};
         use Stage::{Join, Project, Unite};
         match self {
             Call::CheckSchema => &[S],
             Call::CheckMapping => &[S, T, Mapping],
             Call::CheckInstance => &[S, Run],
-            Call::CheckKinds => &[Kinds],
             Call::FirstPath => &[S, P],
             Call::SamePath | Call::PathChain => &[S, P, Q],
             Call::Delta => &[S, T, Mapping, Book],

@@ -2,7 +2,6 @@
 
 use crate::bits::{Fault, Unwritable};
 use crate::instance::{read_folder, Instance, Row};
-use crate::kinds::Kinds;
 use crate::mapping::Mapping;
 use crate::matching::Matching;
 use crate::names::listed;
@@ -65,27 +64,13 @@ impl Lent {
         Self::written(file, mapping.to_sheet(), lines)
     }
 
-    /// A list of kinds from its text.
-    ///
-    /// # Errors
-    /// Where the text is wrong.
-    pub fn kinds(file: &str, text: &str) -> Result<Self, Vec<TextError>> {
-        let (kinds, lines) = Kinds::parse(file, text)?;
-        Self::written(file, Ok(kinds.to_sheet()), lines)
-    }
-
-    /// An instance from its folder of CSV files, whose values will be held against a
-    /// list of kinds.
+    /// An instance from its folder of CSV files.
     ///
     /// # Errors
     /// Where files are missing or wrong.
-    pub fn instance(
-        folder: &std::path::Path,
-        schema: &Schema,
-        kinds: &Kinds,
-    ) -> Result<Self, Vec<TextError>> {
+    pub fn instance(folder: &std::path::Path, schema: &Schema) -> Result<Self, Vec<TextError>> {
         let tables = read_folder(folder, schema)?;
-        let instance = Instance::parse(&tables, schema, kinds)?;
+        let instance = Instance::parse(&tables, schema)?;
         let file = folder.display().to_string();
         Self::written(&file, instance.to_sheet(), Lines::default())
     }
@@ -147,11 +132,6 @@ impl Lent {
             Some(line) => format!("{} line {line}", self.file),
             None => self.file.clone(),
         }
-    }
-
-    /// The file, and the line of a kind where the file is text that names it.
-    pub(crate) fn kind_place(&self, kind: usize) -> String {
-        self.place(|lines| lines.kinds.get(kind)?.as_ref())
     }
 
     /// The place of a row in an instance's folder or sheet.

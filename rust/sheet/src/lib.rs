@@ -1,14 +1,13 @@
 //! Schemas, mappings, instances and matchings with names: as text and CSV for
 //! people, as sheets for the proved calls of the crate `migration`.
 //!
-//! The plain types are [`Schema`], [`Path`], [`Mapping`], [`Instance`],
-//! [`Matching`] and [`Kinds`].  Each is read from text by `parse`, written as text,
-//! encoded by `to_sheet` and decoded by `from_sheet`.  A [`Chain`] of steps between equal
+//! The plain types are [`Schema`], [`Path`], [`Mapping`], [`Instance`] and
+//! [`Matching`].  Each is read from text by `parse`, written as text, encoded
+//! by `to_sheet` and decoded by `from_sheet`.  A [`Chain`] of steps between equal
 //! paths comes only from a call: it is decoded, and written as lines.  A
 //! [`Question`] is a proved call with what it is lent, of a query by its [`Route`], of
-//! a row that comes or goes by its [`Change`]; lent an operator's [`Kinds`], a call that
-//! has a second form is made in it.  When it refuses, [`Question::explain`] finds the line
-//! or row that causes it.
+//! a row that comes or goes by its [`Change`]; when it refuses, [`Question::explain`]
+//! finds the line or row that causes it.
 //!
 //! A run with two dents and a loss, pushed to the operator's book:
 //!
@@ -52,7 +51,6 @@ mod compose;
 mod csv;
 mod draw;
 mod explain;
-mod forms;
 mod instance;
 pub mod kinds;
 mod lent;
@@ -62,7 +60,6 @@ pub mod names;
 mod path;
 mod query;
 mod question;
-mod scale;
 mod schema;
 mod tables;
 mod text;
@@ -76,7 +73,6 @@ pub use classes::all_paths;
 pub use draw::{draw_mapping, draw_schema};
 pub use explain::{Cause, Explanation};
 pub use instance::{read_folder, Instance, Row, TableText};
-pub use kinds::Kinds;
 pub use lent::{Lent, LentSchema};
 pub use mapping::Mapping;
 pub use matching::Matching;

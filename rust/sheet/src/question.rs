@@ -2,7 +2,6 @@
 
 use crate::call::{Call, Role};
 use crate::change::Change;
-use crate::forms;
 use crate::instance::Instance;
 use crate::lent::{Lent, LentSchema};
 use crate::mapping::Mapping;
@@ -65,9 +64,6 @@ pub struct Question {
     pub mapping: Option<Lent>,
     /// The mapping of T to U.
     pub g: Option<Lent>,
-    /// The operator's list of kinds, with which a call that has a second form is made in
-    /// it; no other call is lent it.
-    pub kinds: Option<Lent>,
     /// The instance of S, or of a query's S1.
     pub run: Option<Lent>,
     /// The instance of T.
@@ -102,7 +98,6 @@ impl Question {
             u: None,
             mapping: None,
             g: None,
-            kinds: None,
             run: None,
             book: None,
             p: None,
@@ -124,7 +119,6 @@ impl Question {
             }
             Role::Mapping => self.mapping.as_ref(),
             Role::G => self.g.as_ref(),
-            Role::Kinds => self.kinds.as_ref(),
             Role::Run => self.run.as_ref(),
             Role::Book => self.book.as_ref(),
             Role::P => self.p.as_ref(),
@@ -170,13 +164,14 @@ impl Question {
     /// The call's refusal.
     pub fn ask(&self) -> Result<Answer, Refusal> {
         let (s, t, f) = (self.sheet(Role::S), self.sheet(Role::T), self.sheet(Role::Mapping));
-        let (run, p, q) = (self.sheet(Role::Run), self.sheet(Role::P), self.sheet(Role::Q));
+        let (run, book, list) =
+            (self.sheet(Role::Run), self.sheet(Role::Book), self.sheet(Role::List));
+        let (p, q) = (self.sheet(Role::P), self.sheet(Role::Q));
         let accepted = |()| Answer::Accepted;
         match self.call {
             Call::CheckSchema => migration::check_schema(s).map(accepted),
             Call::CheckMapping => migration::check_mapping(s, t, f).map(accepted),
             Call::CheckInstance => migration::check_instance(s, run).map(accepted),
-            Call::CheckKinds => forms::check_kinds(self.sheet(Role::Kinds)).map(accepted),
             Call::FirstPath => self.filled(|tray| migration::first_path_into(s, p, tray)),
             Call::SamePath => same_path(s, p, q).map(Answer::Equal),
             Call::PathChain => {
@@ -184,21 +179,19 @@ impl Question {
                 let length = migration::path_chain_into(s, p, q, &mut tray)?;
                 Ok(length.map_or(Answer::Equal(false), |length| filled(tray, length)))
             }
-            Call::Delta => self.migrated(migration::delta_into, migration::delta_with_kinds_into),
-            Call::Sigma => self.migrated(migration::sigma_into, migration::sigma_with_kinds_into),
-            Call::Pi => self.migrated(migration::pi_into, migration::pi_with_kinds_into),
+            Call::Delta => self.filled(|tray| migration::delta_into(s, t, f, book, tray)),
+            Call::Sigma => self.filled(|tray| migration::sigma_into(s, t, f, run, tray)),
+            Call::Pi => self.filled(|tray| migration::pi_into(s, t, f, run, tray)),
             Call::Query => self.filled(|tray| self.query_into(tray)),
             Call::Compose => self.filled(|tray| self.compose_into(tray)),
             Call::AddRow | Call::WithdrawRow => self.ask_change(),
-            Call::CheckPushed => {
-                self.checked(migration::check_pushed, migration::check_pushed_with_kinds)
-            }
-            Call::CheckRaw => self.checked(migration::check_raw, migration::check_raw_with_kinds),
+            Call::CheckPushed => migration::check_pushed(s, t, f, run, book, list).map(accepted),
+            Call::CheckRaw => migration::check_raw(s, t, f, run, book, list).map(accepted),
             Call::PushedToRaw => {
-                self.turned(migration::pushed_to_raw_into, migration::pushed_to_raw_with_kinds_into)
+                self.filled(|tray| migration::pushed_to_raw_into(s, t, f, run, book, list, tray))
             }
             Call::RawToPushed => {
-                self.turned(migration::raw_to_pushed_into, migration::raw_to_pushed_with_kinds_into)
+                self.filled(|tray| migration::raw_to_pushed_into(s, t, f, run, book, list, tray))
             }
         }
     }
@@ -208,8 +201,7 @@ impl Question {
         vec![0; self.tray.unwrap_or(self.call.most_bytes())]
     }
 
-    /// The answer of a call that writes into a tray.
-    pub(crate) fn filled(
+    fn filled(
         &self,
         call: impl FnOnce(&mut [u8]) -> Result<usize, Refusal>,
     ) -> Result<Answer, Refusal> {

@@ -49,8 +49,6 @@ pub struct Lines {
     pub equations: Vec<usize>,
     /// For each table, the line of each row of a matching.
     pub rows: Vec<Vec<usize>>,
-    /// The line of each kind; none of a kind that is not named.
-    pub kinds: Vec<Option<usize>>,
 }
 
 /// A line that states something.

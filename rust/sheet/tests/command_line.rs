@@ -20,20 +20,10 @@ fn bad_usage_has_status_2_and_points_to_the_help() {
     told("--fast pack", "no option is named `--fast`", "");
     told(
         "pack",
-        "expected `sheet pack schema|mapping|instance|matching|path|row|kinds` and what to read",
+        "expected `sheet pack schema|mapping|instance|matching|path|row` and what to read",
         " pack",
     );
-    told(
-        "show row",
-        "expected `sheet show schema|mapping|instance|matching|path|kinds` and what to read",
-        " show",
-    );
-    told(
-        "check path",
-        "expected `sheet check schema|mapping|instance|kinds` and what to read",
-        " check",
-    );
-    told("check kinds", "expected KINDS; 0 given", " check");
+    told("check path", "expected `sheet check schema|mapping|instance` and what to read", " check");
     told("pack schema", "expected SCHEMA; 0 given", " pack");
     told("sigma vendor.schema", "expected S T MAPPING RUN; 1 given", " sigma");
     told("match raw a b", "expected S T MAPPING RUN BOOK LIST; 2 given", " match");

@@ -6,14 +6,13 @@ mod common;
 use common::cause_is_found;
 use common::generate::{self, Random};
 use sheet::{
-    Answer, Call, Fault, Instance, Kinds, Lent, LentSchema, Mapping, Matching, Path, Question,
-    Role, Schema,
+    Answer, Call, Fault, Instance, Lent, LentSchema, Mapping, Matching, Path, Question, Role,
+    Schema,
 };
 
 /// A question in which everything is accepted: an even mapping of copies of T,
-/// a run, the pushed run as the book, and each row its own partner; with a list of kinds,
-/// values within it.
-fn accepted(random: &mut Random, call: Call, kinds: Option<Kinds>) -> Question {
+/// a run, the pushed run as the book, and each row its own partner.
+fn accepted(random: &mut Random, call: Call) -> Question {
     loop {
         let t = generate::schema(random);
         let (s, f) = generate::copies(&t, 1 + random.below(2));
@@ -21,17 +20,18 @@ fn accepted(random: &mut Random, call: Call, kinds: Option<Kinds>) -> Question {
         if migration::check_schema(&s_sheet).is_err() {
             continue;
         }
-        let run = run_over(random, &s, kinds.as_ref());
-        let mut question = Question::new(Call::Sigma);
-        question.kinds =
-            kinds.as_ref().map(|kinds| Lent::from_sheet("kinds.sheet", kinds.to_sheet()));
+        let run = generate::instance(random, &s, 4);
+        let (t_sheet, f_sheet) = (t.to_sheet().unwrap(), f.to_sheet().unwrap());
+        let run_sheet = run.to_sheet().unwrap();
+        let book = migration::sigma(&s_sheet, &t_sheet, &f_sheet, &run_sheet).unwrap();
+        let pushed = Instance::from_sheet(&t, &book).unwrap();
+        let own =
+            Matching { partners: pushed.rows.iter().map(|&rows| (0..rows).collect()).collect() };
+        let mut question = Question::new(Call::PushedToRaw);
         question.s = Some(LentSchema::from_sheet("s.sheet", s_sheet));
-        question.t = Some(LentSchema::from_sheet("t.sheet", t.to_sheet().unwrap()));
-        question.mapping = Some(Lent::from_sheet("f.sheet", f.to_sheet().unwrap()));
-        question.run = Some(Lent::from_sheet("run.sheet", run.to_sheet().unwrap()));
-        let Ok(Answer::Sheet(book)) = question.ask() else { panic!("sigma takes copies") };
-        let own = own_partners(&Instance::from_sheet(&t, &book).unwrap());
-        question.call = Call::PushedToRaw;
+        question.t = Some(LentSchema::from_sheet("t.sheet", t_sheet));
+        question.mapping = Some(Lent::from_sheet("f.sheet", f_sheet));
+        question.run = Some(Lent::from_sheet("run.sheet", run_sheet));
         question.book = Some(Lent::from_sheet("book.sheet", book));
         question.list = Some(Lent::from_sheet("list.sheet", own.to_sheet().unwrap()));
         question.u = question.t.clone();
@@ -44,24 +44,12 @@ fn accepted(random: &mut Random, call: Call, kinds: Option<Kinds>) -> Question {
         if matches!(call, Call::CheckRaw | Call::RawToPushed) {
             question.list = Some(Lent::from_sheet("list.sheet", raw));
         }
-        let path = |file| Lent::from_sheet(file, Path::trivial(0).to_sheet().unwrap());
-        (question.p, question.q) = (Some(path("p.sheet")), Some(path("q.sheet")));
+        let path = Path::trivial(0).to_sheet().unwrap();
+        question.p = Some(Lent::from_sheet("p.sheet", path.clone()));
+        question.q = Some(Lent::from_sheet("q.sheet", path));
         question.call = call;
         return question;
     }
-}
-
-/// An accepted run, with values within a list of kinds where there is one.
-fn run_over(random: &mut Random, s: &Schema, kinds: Option<&Kinds>) -> Instance {
-    match kinds {
-        Some(kinds) => generate::instance_within(random, s, 4, kinds),
-        None => generate::instance(random, s, 4),
-    }
-}
-
-/// The list in which each row is its own partner.
-fn own_partners(of: &Instance) -> Matching {
-    Matching { partners: of.rows.iter().map(|&rows| (0..rows).collect()).collect() }
 }
 
 /// The query that pulls the book back along the mapping, joins each table with
@@ -97,7 +85,6 @@ fn set(question: &mut Question, role: Role, sheet: Vec<u8>) {
         }
         Role::Mapping => question.mapping = lent,
         Role::G => question.g = lent,
-        Role::Kinds => question.kinds = lent,
         Role::Run => question.run = lent,
         Role::Book => question.book = lent,
         Role::P => question.p = lent,
@@ -108,7 +95,7 @@ fn set(question: &mut Question, role: Role, sheet: Vec<u8>) {
 }
 
 /// Changes are asked without their rows, which have tests of their own.
-const CALLS: [Call; 18] = [
+const CALLS: [Call; 17] = [
     Call::CheckSchema,
     Call::CheckMapping,
     Call::CheckInstance,
@@ -126,23 +113,7 @@ const CALLS: [Call; 18] = [
     Call::PushedToRaw,
     Call::RawToPushed,
     Call::Compose,
-    Call::CheckKinds,
 ];
-
-/// Each call in its first form without a list of kinds and in its second with one at
-/// random, which the check of a list is lent too.
-fn forms(random: &mut Random) -> Vec<(Call, Option<Kinds>)> {
-    let mut forms = Vec::new();
-    for call in CALLS {
-        if call != Call::CheckKinds {
-            forms.push((call, None));
-        }
-        if call.takes_kinds() || call == Call::CheckKinds {
-            forms.push((call, Some(generate::kinds(random))));
-        }
-    }
-    forms
-}
 
 #[test]
 fn the_cause_is_found_along_mappings_at_random() {
@@ -165,8 +136,7 @@ fn the_cause_is_found_along_mappings_at_random() {
         question.book = Some(Lent::from_sheet("book.sheet", book.to_sheet().unwrap()));
         question.list = Some(Lent::from_sheet("list.sheet", vec![0; random.below(6)]));
         let others = |call: &Call| {
-            !matches!(call, Call::Query | Call::Compose | Call::CheckKinds)
-                && !call.roles().contains(&Role::P)
+            !matches!(call, Call::Query | Call::Compose) && !call.roles().contains(&Role::P)
         };
         for call in CALLS.into_iter().filter(others) {
             question.call = call;
@@ -223,16 +193,16 @@ fn the_cause_is_found_along_routes_at_random() {
 
 #[test]
 fn the_cause_of_every_refusal_is_found() {
-    let mut met = [0; 21];
+    let mut met = [0; 20];
     for seed in 0..160 {
         let random = &mut Random::seeded(seed);
-        for (call, kinds) in forms(random) {
-            let mut question = accepted(random, call, kinds);
+        for call in CALLS {
+            let mut question = accepted(random, call);
             if !matches!(call, Call::Pi | Call::Query) {
                 assert!(question.ask().is_ok());
             }
             for _ in 0..1 + random.below(2) {
-                let role = *random.one_of(&question.roles());
+                let role = *random.one_of(call.roles());
                 let mut sheet = question.lent(role).unwrap().sheet.clone();
                 damage(random, &mut sheet);
                 set(&mut question, role, sheet);
@@ -244,42 +214,7 @@ fn the_cause_of_every_refusal_is_found() {
         }
     }
     // Rare ones have examples of their own.
-    for number in [1, 2, 3, 4, 5, 7, 9, 10, 12, 13, 17, 20] {
-        assert!(met[number] > 0, "refusal {number} was not met: {met:?}");
-    }
-}
-
-/// Lent the built-in list, a second form answers as the first, but for the places, and
-/// the same files are told of.
-#[test]
-fn with_the_built_in_list_a_second_form_is_the_first_with_places_moved() {
-    let built_in = Lent::from_sheet("kinds.sheet", Kinds::built_in().to_sheet());
-    let mut met = [0; 21];
-    for seed in 0..120 {
-        let random = &mut Random::seeded(seed);
-        for call in CALLS.into_iter().filter(|call| call.takes_kinds()) {
-            let mut first = accepted(random, call, None);
-            for _ in 0..random.below(3) {
-                let role = *random.one_of(call.roles());
-                let mut sheet = first.lent(role).unwrap().sheet.clone();
-                damage(random, &mut sheet);
-                set(&mut first, role, sheet);
-            }
-            let mut second = first.clone();
-            second.kinds = Some(built_in.clone());
-            let (answer, refusal) = (second.ask(), first.ask());
-            let moved = refusal.map_err(|refusal| match refusal.place {
-                0 => refusal,
-                place => migration::Refusal { place: place + 1, ..refusal },
-            });
-            assert_eq!(answer, moved, "seed {seed}");
-            let (Err(there), Err(here)) = (answer, first.ask()) else { continue };
-            let (there, here) = (second.explain(there), first.explain(here));
-            assert_eq!((&there.sheet, there.causes.len()), (&here.sheet, here.causes.len()));
-            met[usize::from(here.refusal.number)] += 1;
-        }
-    }
-    for number in [1, 2, 3, 4, 7, 9, 10, 12, 13, 17] {
+    for number in [1, 2, 3, 4, 5, 7, 9, 10, 12, 13, 17] {
         assert!(met[number] > 0, "refusal {number} was not met: {met:?}");
     }
 }
@@ -306,12 +241,6 @@ fn decoding_fails_where_the_proved_calls_send_back_by_1_2_and_3() {
         damage(random, &mut sheet);
         let judged = first_three(migration::check_schema(&sheet));
         assert_eq!(number(Schema::from_sheet(&sheet)), judged, "seed {seed}");
-        let mut kinds = Question::new(Call::CheckKinds);
-        let mut kinds_sheet = generate::any_kinds(random).to_sheet();
-        damage(random, &mut kinds_sheet);
-        let decoded = number(Kinds::from_sheet(&kinds_sheet));
-        kinds.kinds = Some(Lent::from_sheet("kinds.sheet", kinds_sheet));
-        assert_eq!(decoded, first_three(kinds.ask().map(|_| ())), "seed {seed}");
         let noise: Vec<u8> = (0..random.below(40)).map(|_| random.bits() as u8).collect();
         let judged = first_three(migration::check_schema(&noise));
         assert_eq!(number(Schema::from_sheet(&noise)), judged, "seed {seed}");
@@ -321,7 +250,7 @@ fn decoding_fails_where_the_proved_calls_send_back_by_1_2_and_3() {
 #[test]
 fn text_of_noise_is_bad_text_and_no_panic() {
     let letters: Vec<char> =
-        "node link column equation day A B a b . -> : = # , ; \" \r\n\t0 1 9".chars().collect();
+        "node link column equation A B a b . -> : = # , ; \" \r\n\t0 1 9".chars().collect();
     let (schema, _) = Schema::parse("a.schema", "node A\nnode B\nlink A.b -> B\n").unwrap();
     for seed in 0..3000 {
         let random = &mut Random::seeded(seed);
@@ -332,7 +261,6 @@ fn text_of_noise_is_bad_text_and_no_panic() {
         let _ = Path::parse(&schema, &text);
         let tables =
             [0, 1].map(|_| sheet::TableText { file: "A.csv".to_string(), text: text.clone() });
-        let _ = Instance::parse(&tables, &schema, &Kinds::built_in());
-        let _ = Kinds::parse("a.kinds", &text);
+        let _ = Instance::parse(&tables, &schema);
     }
 }

@@ -1,13 +1,12 @@
 //! What the documentation shows is what the command does: each `$ sheet` line of
 //! a console block is run in a copy of an example, which may be named beside
-//! `console`, and what it prints compared; each schema, mapping and list of kinds shown
-//! is read.
+//! `console`, and what it prints compared; each schema and mapping shown is read.
 
 mod common;
 
 use common::{documentation, example, names_in, repository, Folder};
 use sheet::kinds::{Kind, KINDS};
-use sheet::{Call, Lent, Mapping, Question, Schema};
+use sheet::{Mapping, Schema};
 use std::fs;
 use std::path::Path;
 
@@ -62,25 +61,22 @@ fn run_blocks(page: &Path, marked: &str, example_name: &str) -> usize {
 #[test]
 fn the_pages_show_what_the_command_does() {
     let folder = documentation();
-    let (mut pages, mut of_examples) = (0, [0; 3]);
+    let (mut pages, mut of_the_book, mut of_the_digs, mut of_the_exchange) = (0, 0, 0, 0);
     for name in names_in(&folder).iter().filter(|name| name.ends_with(".md")) {
-        let page = folder.join(name);
-        let of_others = ["book", "dig", "exchange"].map(|example_name| {
-            run_blocks(&page, &format!("console {example_name}"), example_name)
-        });
-        let shown = run_page(&page, "base") + of_others.iter().sum::<usize>();
-        assert!(shown > 0, "{name} shows no command");
-        of_examples.iter_mut().zip(of_others).for_each(|(all, here)| *all += here);
+        assert!(run_page(&folder.join(name), "base") > 0, "{name} shows no command");
+        of_the_book += run_blocks(&folder.join(name), "console book", "book");
+        of_the_digs += run_blocks(&folder.join(name), "console dig", "dig");
+        of_the_exchange += run_blocks(&folder.join(name), "console exchange", "exchange");
         pages += 1;
     }
-    assert_eq!(pages, 6);
-    assert_eq!(of_examples, [23, 3, 3]);
+    assert_eq!(pages, 5);
+    assert_eq!((of_the_book, of_the_digs, of_the_exchange), (9, 3, 3));
 }
 
 #[test]
 fn the_examples_readmes_show_what_the_command_does() {
     assert!(run_page(&example("base").join("README.md"), "base") >= 8);
-    assert!(run_page(&example("book").join("README.md"), "book") >= 11);
+    assert!(run_page(&example("book").join("README.md"), "book") >= 8);
     assert!(run_page(&example("dig").join("README.md"), "dig") >= 8);
     assert!(run_page(&example("exchange").join("README.md"), "exchange") >= 7);
 }
@@ -120,7 +116,7 @@ fn the_stored_drawing_is_todays() {
 }
 
 #[test]
-fn the_schemas_mappings_and_kinds_shown_are_read() {
+fn the_schemas_and_mappings_shown_are_read() {
     let read = |name: &str| fs::read_to_string(documentation().join(name)).unwrap();
     let schema = |name: &str| {
         let text = fs::read_to_string(example("base").join(name)).unwrap();
@@ -141,15 +137,7 @@ fn the_schemas_mappings_and_kinds_shown_are_read() {
             shown += 1;
         }
     }
-    for (sort, lines) in blocks(&read("kinds.md")) {
-        if sort == "kinds" {
-            let mut question = Question::new(Call::CheckKinds);
-            question.kinds = Some(Lent::kinds("kinds.md", &lines.join("\n")).unwrap());
-            assert!(question.ask().is_ok());
-            shown += 1;
-        }
-    }
-    assert_eq!(shown, 3);
+    assert_eq!(shown, 2);
 }
 
 /// Kinds 0 to 7 stand in the left half of the table, 8 to 15 in the right half.

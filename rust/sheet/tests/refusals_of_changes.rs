@@ -213,8 +213,8 @@ fn refusal_10_off_scale() {
         &folder,
         &format!("{add} clock=721 depth=1001"),
         &format!(
-            "the new row of Dent: clock 721, but the kind clock runs from 1 to 720 in the built-in list (10, off scale)
-the new row of Dent: depth 1001, but the kind depth runs from 0 to 1000 in the built-in list (10, off scale)
+            "the new row of Dent: clock 721, but the kind clock runs from 1 to 720 (10, off scale)
+the new row of Dent: depth 1001, but the kind depth runs from 0 to 1000 (10, off scale)
 {because}
 mend: correct clock to 1 to 720 (in minutes)
 "
@@ -224,7 +224,7 @@ mend: correct clock to 1 to 720 (in minutes)
         &folder,
         &format!("{add} clock=0 depth=1000"),
         &format!(
-            "the new row of Dent: clock 0, but the kind clock runs from 1 to 720 in the built-in list; twelve o'clock is written 720 (10, off scale)
+            "the new row of Dent: clock 0: twelve o'clock is written 720 (10, off scale)
 {because}
 mend: write clock 0 as 720
 "

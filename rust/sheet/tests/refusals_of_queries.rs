@@ -125,7 +125,7 @@ mend: let spool name a row from 0 to 10, or add rows to Spool
     );
     let folder = changed("query-clock", "run/Dent.csv", ",720,", ",0,");
     query(&folder).refused(
-        "run/Dent.csv row 0: clock 0, but the kind clock runs from 1 to 720 in the built-in list; twelve o'clock is written 720 (10, off scale)
+        "run/Dent.csv row 0: clock 0: twelve o'clock is written 720 (10, off scale)
 query refused sheet 8, the run (run): a value below its kind's smallest or above its largest
 mend: write clock 0 as 720
 ",

@@ -280,8 +280,8 @@ fn refusal_10_off_scale() {
     folder.sheet("check instance clock.schema run").printed("accepted: rows 2 (Weld 2)\n");
     folder.write("run/Weld.csv", "row,seam\n0,720\n1,721\n2,0\n");
     folder.sheet("check instance clock.schema run").refused(
-        "run/Weld.csv row 1: seam 721, but the kind clock runs from 1 to 720 in the built-in list (10, off scale)
-run/Weld.csv row 2: seam 0, but the kind clock runs from 1 to 720 in the built-in list; twelve o'clock is written 720 (10, off scale)
+        "run/Weld.csv row 1: seam 721, but the kind clock runs from 1 to 720 (10, off scale)
+run/Weld.csv row 2: seam 0: twelve o'clock is written 720 (10, off scale)
 check_instance refused sheet 2, the instance (run): a value below its kind's smallest or above its largest
 mend: correct seam to 1 to 720 (in minutes)
 ",
@@ -294,7 +294,7 @@ mend: correct seam to 1 to 720 (in minutes)
     folder.write("flag.schema", "node Weld\ncolumn Weld.shop : flag\n");
     folder.write("run/Weld.csv", "row,shop\n0,0\n1,1\n2,2\n");
     folder.sheet("check instance flag.schema run").refused(
-        "run/Weld.csv row 2: shop 2, but the kind flag runs from 0 to 1 in the built-in list (10, off scale)
+        "run/Weld.csv row 2: shop 2, but the kind flag runs from 0 to 1 (10, off scale)
 check_instance refused sheet 2, the instance (run): a value below its kind's smallest or above its largest
 mend: correct shop to 0 to 1
 ",
@@ -309,7 +309,7 @@ fn refusal_10_twelve_oclock() {
     folder.write("run/Weld.csv", "row,clock\n0,14\n1,0\n");
     let told = |file: &str, place: &str| {
         format!(
-            "{place} row 1: clock 0, but the kind clock runs from 1 to 720 in the built-in list; twelve o'clock is written 720 (10, off scale)
+            "{place} row 1: clock 0: twelve o'clock is written 720 (10, off scale)
 check_instance refused sheet 2, the instance ({file}): a value below its kind's smallest or above its largest
 mend: write clock 0 as 720
 "

@@ -3,7 +3,7 @@
 mod common;
 
 use common::generate::{self, Random};
-use sheet::{aligned_tables, Instance, Kinds, Mapping, Matching, Path, Row, Schema, TableText};
+use sheet::{aligned_tables, Instance, Mapping, Matching, Path, Row, Schema, TableText};
 
 const CASES: u64 = 400;
 
@@ -68,8 +68,7 @@ fn instances_go_through_the_sheet() {
         let schema = generate::schema(random);
         let instance = generate::any_instance(random, &schema, 6);
         let folder = instance.to_folder(&schema);
-        let kinds = generate::any_kinds(random);
-        let read = Instance::parse(&tables(folder.clone()), &schema, &kinds).unwrap();
+        let read = Instance::parse(&tables(folder.clone()), &schema).unwrap();
         assert_eq!(read, instance);
         let decoded = Instance::from_sheet(&schema, &read.to_sheet().unwrap()).unwrap();
         assert_eq!(decoded, instance);
@@ -82,8 +81,7 @@ fn instances_go_through_the_sheet() {
             });
             (file, format!("\u{feff}{}", cells.collect::<String>()))
         });
-        let tables = tables(spreadsheet.collect());
-        assert_eq!(Instance::parse(&tables, &schema, &kinds).unwrap(), instance);
+        assert_eq!(Instance::parse(&tables(spreadsheet.collect()), &schema).unwrap(), instance);
         let shown = aligned_tables(&instance, &schema);
         assert_eq!(
             shown.lines().filter(|line| line.contains(" row")).count(),
@@ -105,33 +103,6 @@ fn matchings_go_through_the_sheet() {
         let decoded = Matching::from_sheet(&schema, &rows, &read.to_sheet().unwrap()).unwrap();
         assert_eq!(decoded, matching);
         assert_eq!(decoded.to_csv(&schema), text);
-    }
-}
-
-#[test]
-fn kinds_go_through_the_sheet() {
-    for seed in 0..CASES {
-        let random = &mut Random::seeded(seed);
-        let kinds = match random.below(2) {
-            0 => generate::kinds(random),
-            _ => generate::any_kinds(random),
-        };
-        let text = kinds.to_text();
-        let (read, lines) = Kinds::parse("some.kinds", &text).unwrap();
-        assert_eq!(read, kinds);
-        assert_eq!(lines.kinds, (1..=16).map(Some).collect::<Vec<_>>());
-        let decoded = Kinds::from_sheet(&read.to_sheet()).unwrap();
-        assert_eq!(decoded, kinds);
-        assert_eq!(decoded.to_text(), text);
-        let mut stated: Vec<&str> = text.lines().collect();
-        stated.reverse();
-        let (shuffled, _) = Kinds::parse("some.kinds", &stated.join("\r\n\r\n")).unwrap();
-        assert_eq!(shuffled, kinds);
-        // The lines of what is not as in the built-in list are enough.
-        let changed = kinds.changed().into_iter().map(|kind| stated[15 - kind]);
-        let (fewer, _) =
-            Kinds::parse("some.kinds", &changed.collect::<Vec<_>>().join("\n")).unwrap();
-        assert_eq!(fewer, kinds);
     }
 }
 

@@ -28,16 +28,6 @@ impl Outcome {
         }
     }
 
-    /// The outcome of a first form as its second has it: "places count it as sheet 1", so
-    /// that those of the others are one more; 0, which is no sheet's, stays.
-    pub fn behind_kinds(self) -> Self {
-        let moved = |refusal: Refusal| Refusal {
-            place: refusal.place + u8::from(refusal.place > 0),
-            ..refusal
-        };
-        Outcome { answer: self.answer.map_err(moved), ..self }
-    }
-
     /// The byte lengths of an accepted change: of the run, and of the pushed sheet.
     pub fn lengths(&self) -> Option<(usize, usize)> {
         let answer = self.answer.ok().filter(|_| self.run.is_some());
@@ -59,15 +49,6 @@ fn result(case: &Case) -> Result<Option<Vec<u8>>, Refusal> {
         (Call::PathChain, [s, p, q]) => return path_chain(s, p, q),
         (Call::Query, [s1, s2, s3, s4, f, g, h, run]) => query(s1, s2, s3, s4, f, g, h, run),
         (Call::Compose, [s, t, u, f, g]) => compose(s, t, u, f, g),
-        (Call::DeltaWithKinds, [kinds, s, t, f, j]) => delta_with_kinds(kinds, s, t, f, j),
-        (Call::SigmaWithKinds, [kinds, s, t, f, i]) => sigma_with_kinds(kinds, s, t, f, i),
-        (Call::PiWithKinds, [kinds, s, t, f, i]) => pi_with_kinds(kinds, s, t, f, i),
-        (Call::PushedToRawWithKinds, [kinds, s, t, f, run, book, list]) => {
-            pushed_to_raw_with_kinds(kinds, s, t, f, run, book, list)
-        }
-        (Call::RawToPushedWithKinds, [kinds, s, t, f, run, book, list]) => {
-            raw_to_pushed_with_kinds(kinds, s, t, f, run, book, list)
-        }
         _ => unreachable!("a call with a tray, lent its sheets"),
     };
     sheet.map(Some)
@@ -85,12 +66,6 @@ fn number(case: &Case) -> Result<usize, Refusal> {
         }
         (Call::CheckRaw, [s, t, f, run, book, list]) => {
             check_raw(s, t, f, run, book, list).map(|()| 0)
-        }
-        (Call::CheckPushedWithKinds, [kinds, s, t, f, run, book, list]) => {
-            check_pushed_with_kinds(kinds, s, t, f, run, book, list).map(|()| 0)
-        }
-        (Call::CheckRawWithKinds, [kinds, s, t, f, run, book, list]) => {
-            check_raw_with_kinds(kinds, s, t, f, run, book, list).map(|()| 0)
         }
         _ => unreachable!("a call without a tray, lent its sheets"),
     }

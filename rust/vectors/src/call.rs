@@ -36,20 +36,6 @@ pub enum Call {
     WithdrawRow,
     /// S, T, U, a mapping of S to T, a mapping of T to U; a tray.
     Compose,
-    /// The second form of [`Call::Delta`]: a kinds sheet, then what the first is lent.
-    DeltaWithKinds,
-    /// The second form of [`Call::Sigma`].
-    SigmaWithKinds,
-    /// The second form of [`Call::Pi`].
-    PiWithKinds,
-    /// The second form of [`Call::CheckPushed`].
-    CheckPushedWithKinds,
-    /// The second form of [`Call::CheckRaw`].
-    CheckRawWithKinds,
-    /// The second form of [`Call::PushedToRaw`].
-    PushedToRawWithKinds,
-    /// The second form of [`Call::RawToPushed`].
-    RawToPushedWithKinds,
 }
 
 /// What stands on a sheet.
@@ -76,24 +62,11 @@ pub enum Kind {
     /// A row for a table of the schema at place 1.  What is wrong with it is told at
     /// place 0.
     Row,
-    /// An operator's own ranges of the kinds.
-    Kinds,
-}
-
-impl Kind {
-    /// The same on a sheet behind a kinds sheet, where every place is one more.
-    fn behind_kinds(self) -> Self {
-        match self {
-            Kind::Mapping { from, to } => Kind::Mapping { from: from + 1, to: to + 1 },
-            Kind::Instance { of } => Kind::Instance { of: of + 1 },
-            other => other,
-        }
-    }
 }
 
 impl Call {
     /// All calls.
-    pub const ALL: [Call; 23] = [
+    pub const ALL: [Call; 16] = [
         Call::CheckSchema,
         Call::CheckMapping,
         Call::CheckInstance,
@@ -110,50 +83,10 @@ impl Call {
         Call::AddRow,
         Call::WithdrawRow,
         Call::Compose,
-        Call::DeltaWithKinds,
-        Call::SigmaWithKinds,
-        Call::PiWithKinds,
-        Call::CheckPushedWithKinds,
-        Call::CheckRawWithKinds,
-        Call::PushedToRawWithKinds,
-        Call::RawToPushedWithKinds,
     ];
 
     /// The calls that change a run in its tray.
     pub const CHANGES: [Call; 2] = [Call::AddRow, Call::WithdrawRow];
-
-    /// The calls of two forms, each with its second, which is lent a kinds sheet: "Delta,
-    /// Sigma, Pi, both checkers and both turnings each get a second form", by request C-18.
-    pub const FORMS: [(Call, Call); 7] = [
-        (Call::Delta, Call::DeltaWithKinds),
-        (Call::Sigma, Call::SigmaWithKinds),
-        (Call::Pi, Call::PiWithKinds),
-        (Call::CheckPushed, Call::CheckPushedWithKinds),
-        (Call::CheckRaw, Call::CheckRawWithKinds),
-        (Call::PushedToRaw, Call::PushedToRawWithKinds),
-        (Call::RawToPushed, Call::RawToPushedWithKinds),
-    ];
-
-    /// The second form of a call that has one.
-    pub fn second_form(self) -> Option<Call> {
-        Self::FORMS.into_iter().find(|(first, _)| *first == self).map(|(_, second)| second)
-    }
-
-    /// The first form of a second one; every other call is its own.
-    pub fn first_form(self) -> Call {
-        let form = Self::FORMS.into_iter().find(|(_, second)| *second == self);
-        form.map_or(self, |(first, _)| first)
-    }
-
-    /// Whether the call is the first of two forms.
-    pub fn has_two_forms(self) -> bool {
-        self.second_form().is_some()
-    }
-
-    /// Whether the call is lent a kinds sheet.
-    pub fn takes_kinds(self) -> bool {
-        self.first_form() != self
-    }
 
     /// The call's name in the library.
     pub fn name(self) -> &'static str {
@@ -174,13 +107,6 @@ impl Call {
             Call::AddRow => "add_row",
             Call::WithdrawRow => "withdraw_row",
             Call::Compose => "compose",
-            Call::DeltaWithKinds => "delta_with_kinds",
-            Call::SigmaWithKinds => "sigma_with_kinds",
-            Call::PiWithKinds => "pi_with_kinds",
-            Call::CheckPushedWithKinds => "check_pushed_with_kinds",
-            Call::CheckRawWithKinds => "check_raw_with_kinds",
-            Call::PushedToRawWithKinds => "pushed_to_raw_with_kinds",
-            Call::RawToPushedWithKinds => "raw_to_pushed_with_kinds",
         }
     }
 
@@ -190,25 +116,24 @@ impl Call {
     /// the query, by request C-15, "schemas first, then F, G, H, then the run".  Of a
     /// change, by request C-16, "S, T, mapping, run and 12 are judged first", then the
     /// added row.  "The composing call is lent S, T, U, F, G, judged in that order", by
-    /// request C-17.  A kinds sheet "is judged before S, places count it as sheet 1", by
-    /// request C-18.
-    pub fn sheets(self) -> Vec<Kind> {
+    /// request C-17.
+    pub fn sheets(self) -> &'static [Kind] {
         use Kind::*;
         const F: Kind = Mapping { from: 1, to: 2 };
         const OF_S: Kind = Instance { of: 1 };
         const OF_T: Kind = Instance { of: 2 };
         match self {
-            Call::CheckSchema => vec![Schema],
-            Call::CheckMapping => vec![Schema, Schema, F],
-            Call::CheckInstance => vec![Schema, OF_S],
-            Call::FirstPath => vec![Schema, Path],
-            Call::PathChain => vec![Schema, Path, Path],
-            Call::Delta => vec![Schema, Schema, F, OF_T],
-            Call::Sigma | Call::Pi => vec![Schema, Schema, F, OF_S],
+            Call::CheckSchema => &[Schema],
+            Call::CheckMapping => &[Schema, Schema, F],
+            Call::CheckInstance => &[Schema, OF_S],
+            Call::FirstPath => &[Schema, Path],
+            Call::PathChain => &[Schema, Path, Path],
+            Call::Delta => &[Schema, Schema, F, OF_T],
+            Call::Sigma | Call::Pi => &[Schema, Schema, F, OF_S],
             Call::CheckPushed | Call::CheckRaw | Call::PushedToRaw | Call::RawToPushed => {
-                vec![Schema, Schema, F, OF_S, OF_T, List]
+                &[Schema, Schema, F, OF_S, OF_T, List]
             }
-            Call::Query => vec![
+            Call::Query => &[
                 Schema,
                 Schema,
                 Schema,
@@ -218,19 +143,9 @@ impl Call {
                 Mapping { from: 3, to: 4 },
                 OF_S,
             ],
-            Call::AddRow => vec![Schema, Schema, F, OF_S, Row],
-            Call::WithdrawRow => vec![Schema, Schema, F, OF_S],
-            Call::Compose => vec![Schema, Schema, Schema, F, Mapping { from: 2, to: 3 }],
-            Call::DeltaWithKinds
-            | Call::SigmaWithKinds
-            | Call::PiWithKinds
-            | Call::CheckPushedWithKinds
-            | Call::CheckRawWithKinds
-            | Call::PushedToRawWithKinds
-            | Call::RawToPushedWithKinds => {
-                let first = self.first_form().sheets().into_iter();
-                [Kinds].into_iter().chain(first.map(Kind::behind_kinds)).collect()
-            }
+            Call::AddRow => &[Schema, Schema, F, OF_S, Row],
+            Call::WithdrawRow => &[Schema, Schema, F, OF_S],
+            Call::Compose => &[Schema, Schema, Schema, F, Mapping { from: 2, to: 3 }],
         }
     }
 
@@ -261,11 +176,9 @@ impl Call {
     pub fn has_tray(self) -> bool {
         use Call::*;
         match self {
-            CheckSchema | CheckMapping | CheckInstance | CheckPushed | CheckRaw
-            | CheckPushedWithKinds | CheckRawWithKinds => false,
+            CheckSchema | CheckMapping | CheckInstance | CheckPushed | CheckRaw => false,
             FirstPath | Delta | Sigma | Pi | PushedToRaw | RawToPushed | PathChain | Query
-            | AddRow | WithdrawRow | Compose | DeltaWithKinds | SigmaWithKinds | PiWithKinds
-            | PushedToRawWithKinds | RawToPushedWithKinds => true,
+            | AddRow | WithdrawRow | Compose => true,
         }
     }
 }
@@ -324,18 +237,6 @@ impl Case {
         assert_eq!(sheets.len(), call.sheets().len());
         assert_eq!(numbers.len(), call.numbers());
         Case { name: name.into(), call, sheets, numbers, tray: 0, standing: vec![] }
-    }
-
-    /// The same call in its second form, with a kinds sheet before its sheets.
-    pub fn with_kinds(self, kinds: Vec<u8>) -> Self {
-        let call = self.call.second_form().expect("a call of two forms");
-        Case { call, sheets: [vec![kinds], self.sheets].concat(), ..self }
-    }
-
-    /// Of a second form the same call in its first, without the kinds sheet.
-    pub fn without_kinds(self) -> Self {
-        assert!(self.call.takes_kinds());
-        Case { call: self.call.first_form(), sheets: self.sheets[1..].to_vec(), ..self }
     }
 
     /// The case with a tray of this length, if the call has one.

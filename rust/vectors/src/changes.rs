@@ -125,7 +125,7 @@ impl Stream {
     /// The run as it stands.
     fn run(&self) -> Instance {
         let length = self.trays.length as usize;
-        Instance::accept(&self.s, &RANGES, &self.trays.run[..length]).expect("an accepted run")
+        Instance::accept(&self.s, &self.trays.run[..length]).expect("an accepted run")
     }
 
     /// The next change.  Two of three are lent what fits, and move the stream on where

@@ -96,7 +96,7 @@ pub fn fruitful_dig(random: &mut Random, generators: usize) -> Dig {
         let dig = any_dig(random, generators);
         let [s1, s2, s3, s4, f, g, h, run] = &dig.sheets()[..] else { unreachable!("a query") };
         let Ok(result) = reference::query(s1, s2, s3, s4, f, g, h, run) else { continue };
-        let result = Instance::accept(&dig.schemas[3], &RANGES, &result).expect("an instance");
+        let result = Instance::accept(&dig.schemas[3], &result).expect("an instance");
         let links = result.links.iter().any(|targets| !targets.is_empty());
         if links && result.values.iter().any(|column| !column.is_empty()) {
             return dig;

@@ -8,12 +8,10 @@ use crate::composable::Composable;
 use crate::compositions::base_composable;
 use crate::digs::Dig;
 use crate::queries::base_dig;
-use crate::ranges::kinds_sheet;
 use crate::trays::{Change, Trays};
 use reference::plain::*;
 
-/// Every call on document 01's base example, the second forms by the built-in list as a
-/// sheet.
+/// Every call on document 01's base example.
 pub fn base() -> Vec<Case> {
     let (s, t, f, run, book) = (base_s(), base_t(), base_f(), base_run(), base_book());
     let sides = |partners: &[usize]| {
@@ -46,17 +44,7 @@ pub fn base() -> Vec<Case> {
         let trays = Trays::with_room([s.clone(), t.clone(), f.clone(), run.clone()]);
         cases.push(trays.case(format!("base.{}", call.name()), change));
     }
-    let second = second_forms("base", &cases);
-    [cases, second].concat()
-}
-
-/// The second forms of those calls of a size that have one, by the built-in list as a sheet.
-fn second_forms(size: &str, cases: &[Case]) -> Vec<Case> {
-    let second = |case: &Case| {
-        let case = case.clone().with_kinds(kinds_sheet(&RANGES));
-        Case { name: format!("{size}.{}", case.call.name()), ..case }
-    };
-    cases.iter().filter(|case| case.call.has_two_forms()).map(second).collect()
+    cases
 }
 
 /// The case of a size, with a tray that holds every result.
@@ -156,7 +144,7 @@ pub fn rows(schema: &Schema, each: usize) -> Instance {
 /// Every call on sheets of full size: S with 16 nodes, 32 edges, 16 columns, 32
 /// equations, 256 paths, the run with 512 rows; Sigma, the matching calls and the changes
 /// along the mapping of two copies to one; the query with four such schemas, the composing
-/// call with three; the second forms by the built-in list as a sheet.
+/// call with three.
 pub fn full() -> Vec<Case> {
     let t = half_schema();
     let (s, f) = two_copies(&t);
@@ -192,8 +180,7 @@ pub fn full() -> Vec<Case> {
     ];
     let mut cases = cases.map(|(call, sheets)| with_room("full", call, sheets)).to_vec();
     cases.extend(full_changes());
-    let second = second_forms("full", &cases);
-    [cases, second].concat()
+    cases
 }
 
 /// A row added to 511 at full size, and a row withdrawn from 512: of the first table, which

@@ -5,7 +5,6 @@
 //!   accepted, [`world`] sets of them that fit together, [`digs`] those of a query,
 //!   [`composable`] mappings one behind the other, [`questions`] two paths of a schema
 //!   in which many are equal;
-//! - [`ranges`] makes an operator's own lists of the kinds, and moves values into them;
 //! - [`damage`] makes one sheet of such a set one that is sent back;
 //! - [`papers`], [`full`], [`limits`], [`first_paths`], [`chains`], [`queries`],
 //!   [`query_refusals`], [`compositions`], [`composition_refusals`], [`puzzles`],
@@ -13,8 +12,6 @@
 //!   outcome;
 //! - [`change_limits`], [`change_faults`], [`change_refusals`] and [`changes`] are those of
 //!   the calls that change a run, in [`trays`], with [`rows`] that come and go;
-//! - [`own_kinds`], [`own_kinds_refusals`] and [`own_kinds_chance`] are those of the second
-//!   forms, which are lent a kinds sheet;
 //! - [`path_questions`] are the stored ones about two paths, with their answers;
 //! - [`rules`] makes sheets of a puzzle, [`kinds`] has puzzles of six kinds and any
 //!   size with their solutions, which [`modular`] finds for some, and [`hard`] the
@@ -46,9 +43,6 @@ pub mod kinds;
 pub mod limits;
 pub mod mappings;
 pub mod modular;
-pub mod own_kinds;
-pub mod own_kinds_chance;
-pub mod own_kinds_refusals;
 pub mod papers;
 pub mod path_questions;
 pub mod puzzles;
@@ -56,7 +50,6 @@ pub mod queries;
 pub mod query_refusals;
 pub mod questions;
 pub mod random;
-pub mod ranges;
 pub mod record;
 pub mod report;
 pub mod rows;

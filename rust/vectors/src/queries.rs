@@ -26,7 +26,7 @@ pub fn queries() -> Vec<Case> {
 /// a loss at one joint; dents and losses in one table, and the pairs beside it.
 pub fn base_dig() -> Dig {
     let s1 = Schema::accept(&base_s()).expect("the base example");
-    let run = Instance::accept(&s1, &RANGES, &base_run()).expect("the base example");
+    let run = Instance::accept(&s1, &base_run()).expect("the base example");
     let stations = |nodes: &[usize]| -> Vec<Attribute> {
         nodes.iter().map(|&node| Attribute { node, kind: 1 }).collect()
     };

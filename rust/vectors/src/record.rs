@@ -4,8 +4,7 @@
 //!
 //! - the call, one byte: its place in [`Call::ALL`] from 0;
 //! - eight sheets, each after its 16-bit byte length, most significant byte first;
-//!   those that the call does not take are empty.  Of a second form the first is the kinds
-//!   sheet.  Of a change the fourth is the run's
+//!   those that the call does not take are empty.  Of a change the fourth is the run's
 //!   whole tray, the fifth an added row, and the last three are numbers of 8 bytes, most
 //!   significant first: the run's byte length, the table, a withdrawn row;
 //! - the tray's byte length, 16 bits, most significant byte first; 0 for a call
@@ -25,9 +24,6 @@ use crate::composition_refusals;
 use crate::compositions::compositions;
 use crate::digs::fruitful_dig;
 use crate::limits::limits;
-use crate::own_kinds::own_kinds;
-use crate::own_kinds_chance::own_kinds_by_chance;
-use crate::own_kinds_refusals;
 use crate::papers::papers;
 use crate::random::Random;
 use crate::stream::{for_each_refusal, Chance};
@@ -52,8 +48,8 @@ pub fn stored_cases() -> Vec<Case> {
         dig.case(format!("query {number}")).with_tray(400 + number)
     };
     let queries = (0..).map(query).filter(short).take(QUERIES_BY_CHANCE);
-    let others = fixed.chain(made).chain(chance).chain(queries).chain(stored_changes());
-    others.chain(stored_compositions()).chain(stored_with_kinds()).collect()
+    let others = fixed.chain(made).chain(chance).chain(queries);
+    others.chain(stored_changes()).chain(stored_compositions()).collect()
 }
 
 /// Those that change a run: the fixed ones, those made for a refusal each, and streams,
@@ -76,15 +72,6 @@ fn stored_compositions() -> Vec<Case> {
     compositions().into_iter().chain(made).chain(chance.take(COMPOSITIONS_BY_CHANCE)).collect()
 }
 
-/// Those of the second forms: the fixed ones, those made for a refusal each, and others.
-fn stored_with_kinds() -> Vec<Case> {
-    let made = own_kinds_refusals::for_each_refusal(&mut Random::seeded(9)).into_iter();
-    let made = made.map(|expected| expected.case);
-    let short = |case: &Case| record(case).len() <= MOST_WITH_KINDS_BY_CHANCE;
-    let chance = own_kinds_by_chance(10).filter(short).take(WITH_KINDS_BY_CHANCE);
-    own_kinds().into_iter().chain(made).chain(chance).collect()
-}
-
 /// So many of the stored cases are made by chance.
 const CASES_BY_CHANCE: usize = 3014;
 
@@ -102,12 +89,6 @@ const MOST_CHANGE_BY_CHANCE: usize = 400;
 
 /// So many more are of the composing call.
 const COMPOSITIONS_BY_CHANCE: usize = 240;
-
-/// So many more are second forms by chance.
-const WITH_KINDS_BY_CHANCE: usize = 700;
-
-/// None of these is longer than so many bytes.
-const MOST_WITH_KINDS_BY_CHANCE: usize = 400;
 
 /// A case as a record.
 pub fn record(case: &Case) -> Vec<u8> {

@@ -1,7 +1,6 @@
 //! The order in which cases are tried: the fixed ones, those that are made for
 //! one refusal each, then as many by chance as are wanted; and in the same order, apart
-//! from the others, the changes of runs.  The second forms, which are lent a kinds sheet,
-//! have an order of their own ([`crate::own_kinds_chance`]).
+//! from the others, the changes of runs.
 
 use crate::answer::result_length;
 use crate::call::{Call, Case};
@@ -37,8 +36,7 @@ const WITH_LIST: [Call; 4] =
 
 /// For each call, place and damage a case with that damage; then those for the numbers of
 /// no single sheet.  The query has random numbers of its own, so that the others' cases do
-/// not depend on it; the changes of a run, the composing call and the second forms have
-/// cases of their own.
+/// not depend on it; the changes of a run and the composing call have cases of their own.
 pub fn for_each_refusal(random: &mut Random) -> Vec<Expected> {
     let mut of_query = random.clone();
     let mut cases = Vec::new();
@@ -59,14 +57,13 @@ pub fn for_each_refusal(random: &mut Random) -> Vec<Expected> {
     cases
 }
 
-/// The calls but the changes of a run, the composing call and the second forms.
+/// The calls but the changes of a run and the composing call.
 fn others() -> impl Iterator<Item = Call> {
-    let apart = |call: Call| call.is_change() || call == Call::Compose || call.takes_kinds();
-    Call::ALL.into_iter().filter(move |&call| !apart(call))
+    Call::ALL.into_iter().filter(|call| !call.is_change() && *call != Call::Compose)
 }
 
-/// The fixed cases of the calls that change no run, in their first form, the longest too,
-/// and one for each refusal.
+/// The fixed cases of the calls that change no run, the longest too, and one for each
+/// refusal.
 pub fn fixed_and_refused(random: &mut Random) -> Vec<Case> {
     let refused = for_each_refusal(random).into_iter();
     let refused = refused.chain(composition_refusals::for_each_refusal(random));
@@ -97,7 +94,7 @@ fn damaged(random: &mut Random, call: Call, place: usize, damage: Damage) -> Cas
 
 /// Cases for 12, 13, 15 and 16 of each of these calls but the query; those for 14 are among
 /// the limits.
-pub(crate) fn for_no_single_sheet(random: &mut Random) -> Vec<Expected> {
+fn for_no_single_sheet(random: &mut Random) -> Vec<Expected> {
     let mut cases = Vec::new();
     let mut add = |number: u8, case: Case| {
         cases.push(Expected { case, refusal: Refusal { number, place: 0 } });
@@ -192,10 +189,10 @@ fn accepted(random: &mut Random, call: Call) -> (Case, usize) {
     }
 }
 
-/// Cases by chance, without end: for each world every call that changes no run, in its first
-/// form, on its sheets as they are and on damaged ones, for first paths on two, and for each
-/// tenth a puzzle for Pi.  The query has sheets, and random numbers, of its own, and so has
-/// the composing call.
+/// Cases by chance, without end: for each world every call that changes no run on its
+/// sheets as they are and on damaged ones, for first paths on two, and for each tenth a
+/// puzzle for Pi.  The query has sheets, and random numbers, of its own, and so has the
+/// composing call.
 pub struct Chance {
     random: Random,
     of_query: Random,
@@ -216,7 +213,7 @@ impl Chance {
     fn next_world(&mut self) -> Vec<Case> {
         self.worlds += 1;
         let random = &mut self.random;
-        let generators = *random.one_of(&GENERATORS);
+        let generators = *random.one_of(&[1, 2, 2, 3, 3, 4, 4, 6, 12, 40]);
         let world = World::any(random, generators);
         let mut cases = Vec::new();
         if self.worlds.is_multiple_of(10) {
@@ -239,16 +236,8 @@ impl Chance {
     }
 }
 
-/// How many rows that no equation speaks of a world has at most; one of these.
-pub(crate) const GENERATORS: [usize; 10] = [1, 2, 2, 3, 3, 4, 4, 6, 12, 40];
-
 /// A call on sheets of a world as they are, and on damaged ones.
-pub(crate) fn whole_and_damaged(
-    random: &mut Random,
-    world: u64,
-    call: Call,
-    lent: &[Sheet],
-) -> [Case; 2] {
+fn whole_and_damaged(random: &mut Random, world: u64, call: Call, lent: &[Sheet]) -> [Case; 2] {
     let name = |what: &str| format!("world {world}, {what}");
     let whole = Case::new(name("as it is"), call, sheets(lent));
     let tray = some_tray(random, &whole);
@@ -270,7 +259,7 @@ impl Iterator for Chance {
 }
 
 /// A length for the tray: what is needed, a byte less, some more, any, or none.
-pub(crate) fn some_tray(random: &mut Random, case: &Case) -> usize {
+fn some_tray(random: &mut Random, case: &Case) -> usize {
     let needed = if case.call.has_tray() { result_length(case) } else { None };
     match (needed, random.below(6)) {
         (Some(needed), 0) => needed.saturating_sub(1),

@@ -34,8 +34,6 @@ pub enum Sheet {
         /// The row.
         row: Row,
     },
-    /// An operator's own ranges of the kinds.
-    Kinds(Kinds),
 }
 
 impl Sheet {
@@ -48,7 +46,6 @@ impl Sheet {
             Sheet::Path(path) => path.to_sheet(),
             Sheet::List(list) => list.to_sheet(),
             Sheet::Row { row, .. } => row.to_sheet(),
-            Sheet::Kinds(kinds) => kinds.to_sheet(),
         }
     }
 }
@@ -165,9 +162,8 @@ impl World {
         }
     }
 
-    /// What a call is lent, in its first form.  The calls with one schema are lent S or T,
-    /// those with paths mostly another; the query and the composing call are lent sheets of
-    /// their own.
+    /// What a call is lent.  The calls with one schema are lent S or T, those with
+    /// paths mostly another; the query and the composing call are lent sheets of their own.
     pub fn lent(&self, random: &mut Random, call: Call) -> Vec<Sheet> {
         let World { mapped: Mapped { s, t, f }, run, book, pushed, raw } = self;
         let list = match call {
@@ -195,7 +191,6 @@ impl World {
                     (_, Kind::List) => Sheet::List(list.clone()),
                     (_, Kind::Path) => unreachable!("paths are lent to the calls with one schema"),
                     (_, Kind::Row) => unreachable!("changes are lent sheets of their own"),
-                    (_, Kind::Kinds) => unreachable!("a kinds sheet is put before these"),
                 };
                 (0..call.sheets().len()).map(of_kind).collect()
             }

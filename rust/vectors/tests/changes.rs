@@ -37,10 +37,10 @@ impl Opened {
         let (run, pushed) = outcome.lengths()?;
         let [s, t] = [0, 1].map(|place| Schema::accept(&case.sheets[place]).expect("accepted"));
         let f = Mapping::accept(&s, &t, &case.sheets[2]).expect("accepted");
-        let before = Instance::accept(&s, &RANGES, case.sheet(3)).expect("accepted");
+        let before = Instance::accept(&s, case.sheet(3)).expect("accepted");
         let trays = outcome.run.as_ref().expect("the run's tray");
-        let after = Instance::accept(&s, &RANGES, &trays[..run]).expect("an accepted run");
-        Instance::accept(&t, &RANGES, &outcome.tray[..pushed]).expect("an accepted pushed sheet");
+        let after = Instance::accept(&s, &trays[..run]).expect("an accepted run");
+        Instance::accept(&t, &outcome.tray[..pushed]).expect("an accepted pushed sheet");
         let table = case.numbers[1] as usize;
         let row = case.numbers.get(2).map_or(before.rows[table], |&row| row as usize);
         let mapped = Mapped { s, t, f };
@@ -162,7 +162,7 @@ fn why(case: &Case, number: u8) -> Option<[bool; 2]> {
         }
         18 => Some([case.numbers[1] >= schema.nodes as u64, case.numbers[1] >= 1 << 32]),
         19 => {
-            let run = Instance::accept(&schema, &RANGES, case.sheet(3)).expect("accepted");
+            let run = Instance::accept(&schema, case.sheet(3)).expect("accepted");
             let [table, row] = [case.numbers[1], case.numbers[2]].map(|n| n as usize);
             Some([held_by(&schema, &run, table, row).len() > 1, false])
         }

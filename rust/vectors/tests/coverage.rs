@@ -12,7 +12,6 @@ use vectors::change_refusals;
 use vectors::composition_refusals;
 use vectors::even::is_even;
 use vectors::mappings::Mapped;
-use vectors::own_kinds_refusals;
 use vectors::random::Random;
 use vectors::record::stored_cases;
 use vectors::report::{End, Report};
@@ -33,25 +32,20 @@ fn numbers_of(kind: Kind) -> &'static [u8] {
         Kind::List => &[1, 2, 17],
         // "The tests on an added row are 1, 2, 9, 10, 11, 15"; 15 is the run's.
         Kind::Row => &[1, 2, 9, 10, 11],
-        // "the tests 1 and 2 apply to it", "20, bad kinds, .. after 2 in that sheet"
-        Kind::Kinds => &[1, 2, 20],
     }
 }
 
 /// The numbers of no single sheet.  15 does not occur for Sigma: its result has
-/// as many rows as the run.  For the query it is Delta's or Pi's.  A second form has those
-/// of its first.
+/// as many rows as the run.  For the query it is Delta's or Pi's.
 fn numbers_of_no_sheet(call: Call) -> &'static [u8] {
     match call {
         Call::CheckSchema | Call::CheckMapping | Call::CheckInstance => &[],
         Call::FirstPath | Call::PathChain => &[16],
-        Call::Delta | Call::DeltaWithKinds => &[15, 16],
-        Call::Sigma | Call::SigmaWithKinds => &[12, 16],
-        Call::Pi | Call::PiWithKinds => &[13, 14, 15, 16],
+        Call::Delta => &[15, 16],
+        Call::Sigma => &[12, 16],
+        Call::Pi => &[13, 14, 15, 16],
         Call::CheckPushed | Call::CheckRaw => &[12, 15],
-        Call::CheckPushedWithKinds | Call::CheckRawWithKinds => &[12, 15],
         Call::PushedToRaw | Call::RawToPushed => &[12, 15, 16],
-        Call::PushedToRawWithKinds | Call::RawToPushedWithKinds => &[12, 15, 16],
         Call::Query => &[12, 13, 14, 15, 16],
         // "15 where the run would pass 512 rows", "18, absent", "19, still held"
         Call::AddRow => &[12, 15, 16, 18],
@@ -69,7 +63,7 @@ fn can_occur(call: Call) -> Vec<End> {
     };
     let of_none = numbers_of_no_sheet(call).iter();
     ends.extend(of_none.map(|&number| End::Refused { place: 0, number }));
-    for (sheet, kind) in call.sheets().into_iter().enumerate() {
+    for (sheet, &kind) in call.sheets().iter().enumerate() {
         // "the tests of the change itself have place 0"
         let place = if kind == Kind::Row { 0 } else { sheet as u8 + 1 };
         let numbers = numbers_of(kind).iter();
@@ -102,7 +96,7 @@ fn every_call_ends_in_every_way_that_it_can_and_in_no_other() {
     for (call, end) in report.met() {
         assert!(can_occur(call).contains(&end), "{} ends {end}", call.name());
     }
-    assert_eq!(Call::ALL.map(|call| can_occur(call).len()).iter().sum::<usize>(), 649);
+    assert_eq!(Call::ALL.map(|call| can_occur(call).len()).iter().sum::<usize>(), 413);
 }
 
 #[test]
@@ -111,7 +105,6 @@ fn what_is_made_for_a_refusal_meets_it() {
         let others = change_refusals::for_each_refusal(&mut Random::seeded(seed)).into_iter();
         let others =
             others.chain(composition_refusals::for_each_refusal(&mut Random::seeded(seed)));
-        let others = others.chain(own_kinds_refusals::for_each_refusal(&mut Random::seeded(seed)));
         for made in for_each_refusal(&mut Random::seeded(seed)).into_iter().chain(others) {
             let Outcome { answer, tray, run } = reference_outcome(&made.case);
             assert_eq!(answer, Err(made.refusal), "{} {}", made.case.call.name(), made.case.name);
@@ -133,21 +126,13 @@ fn read(schema: &Schema, sheet: &[u8]) -> Option<Instance> {
     Some(Instance { rows, links, values })
 }
 
-/// The ranges that a case's values are judged by: the built-in list, or an operator's own.
-fn ranges_of(case: &Case) -> Ranges {
-    if case.call.takes_kinds() {
-        return Kinds::accept(case.sheet(0)).expect("a kinds sheet, judged first").ranges;
-    }
-    RANGES
-}
-
 /// Whether the value that is an instance sheet's only fault is below its kind's
 /// smallest or above its largest; nothing where there are other faults.
-fn off_scale(ranges: &Ranges, schema: &Schema, sheet: &[u8]) -> Option<Ordering> {
+fn off_scale(schema: &Schema, sheet: &[u8]) -> Option<Ordering> {
     let mut instance = read(schema, sheet)?;
     let mut sides = Vec::new();
     for (values, attribute) in instance.values.iter_mut().zip(&schema.attributes) {
-        let (smallest, largest) = ranges[attribute.kind].clone().into_inner();
+        let (smallest, largest) = RANGES[attribute.kind].clone().into_inner();
         for value in values {
             let found = *value;
             *value = found.clamp(smallest, largest);
@@ -155,7 +140,7 @@ fn off_scale(ranges: &Ranges, schema: &Schema, sheet: &[u8]) -> Option<Ordering>
         }
     }
     sides.retain(|side| side.is_ne());
-    let accepted = Instance::accept(schema, ranges, &instance.to_sheet()).is_ok();
+    let accepted = Instance::accept(schema, &instance.to_sheet()).is_ok();
     (accepted && sides.len() == 1).then(|| sides[0])
 }
 
@@ -168,11 +153,11 @@ fn every_instance_is_sent_back_for_one_value_too_small_and_for_one_too_large() {
         let place = usize::from(place) - 1;
         let Kind::Instance { of } = case.call.sheets()[place] else { panic!("an instance") };
         let schema = Schema::accept(&case.sheets[of - 1]).expect("a schema, judged before");
-        let side = off_scale(&ranges_of(case), &schema, case.sheet(place));
+        let side = off_scale(&schema, case.sheet(place));
         met.extend(side.map(|side| (case.call, place, side)));
     }
     for call in Call::ALL {
-        for (place, kind) in call.sheets().into_iter().enumerate() {
+        for (place, kind) in call.sheets().iter().enumerate() {
             for side in [Ordering::Less, Ordering::Greater] {
                 let can_be = matches!(kind, Kind::Instance { .. });
                 let is = met.contains(&(call, place, side));
@@ -183,7 +168,7 @@ fn every_instance_is_sent_back_for_one_value_too_small_and_for_one_too_large() {
 }
 
 /// The decoded schemas, mapping and first instance of an accepted case of a call with
-/// one mapping, in its first form.
+/// one mapping.
 struct Opened {
     mapped: Mapped,
     instance: Instance,
@@ -193,18 +178,17 @@ struct Opened {
 
 impl Opened {
     fn of(case: &'static Case, outcome: &'static Outcome) -> Option<Self> {
-        let kinds = case.call.sheets();
-        let mappings = kinds.iter().filter(|kind| matches!(kind, Kind::Mapping { .. })).count();
-        let one_mapping = mappings == 1 && case.sheets.len() > 3;
-        let apart = case.call.is_change() || case.call.takes_kinds();
-        if outcome.answer.is_err() || !one_mapping || apart {
+        let mappings =
+            case.call.sheets().iter().filter(|kind| matches!(kind, Kind::Mapping { .. }));
+        let one_mapping = mappings.count() == 1 && case.sheets.len() > 3 && !case.call.is_change();
+        if outcome.answer.is_err() || !one_mapping {
             return None;
         }
         let s = Schema::accept(&case.sheets[0]).ok()?;
         let t = Schema::accept(&case.sheets[1]).ok()?;
         let f = Mapping::accept(&s, &t, &case.sheets[2]).ok()?;
         let over = if case.call == Call::Delta { &t } else { &s };
-        let instance = Instance::accept(over, &RANGES, &case.sheets[3]).ok()?;
+        let instance = Instance::accept(over, &case.sheets[3]).ok()?;
         Some(Opened { mapped: Mapped { s, t, f }, instance, outcome, case })
     }
 
@@ -219,8 +203,7 @@ impl Opened {
     /// The result, decoded over a schema.
     fn result(&self, schema: &Schema) -> Instance {
         let length = self.outcome.answer.expect("an accepted case");
-        let result = &self.outcome.tray[..length];
-        Instance::accept(schema, &RANGES, result).expect("an accepted result")
+        Instance::accept(schema, &self.outcome.tray[..length]).expect("an accepted result")
     }
 
     /// Of a turning: the book row that each row of the run meets, with its

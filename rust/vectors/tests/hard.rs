@@ -88,7 +88,7 @@ fn the_sheets_have_the_solutions() {
 /// The families at the last table of T, if the answer is a sheet.
 fn families(case: &Case, answer: &Result<Vec<u8>, u8>) -> Option<usize> {
     let t = Schema::accept(&case.sheets[1]).expect("a schema");
-    let result = Instance::accept(&t, &RANGES, answer.as_ref().ok()?).expect("an instance");
+    let result = Instance::accept(&t, answer.as_ref().ok()?).expect("an instance");
     result.rows.last().copied()
 }
 
@@ -111,7 +111,7 @@ fn the_seeds_give_so_many_families() {
         let [s, t, f, run] = &sheet.case.sheets[..] else { unreachable!("a call of pi") };
         let (s, t) = (Schema::accept(s).expect("S"), Schema::accept(t).expect("T"));
         Mapping::accept(&s, &t, f).expect("the mapping");
-        Instance::accept(&s, &RANGES, run).expect("the run");
+        Instance::accept(&s, run).expect("the run");
         assert_eq!(families(&sheet.case, &sheet.answer), Some(count), "{name}");
     }
 }

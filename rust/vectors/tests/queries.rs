@@ -29,11 +29,10 @@ impl Opened {
         let f = Mapping::accept(s2, s1, f).expect("accepted");
         let g = Mapping::accept(s2, s3, g).expect("accepted");
         let h = Mapping::accept(s3, s4, h).expect("accepted");
-        let run = Instance::accept(s1, &RANGES, run).expect("accepted");
+        let run = Instance::accept(s1, run).expect("accepted");
         let projected = migrate::delta(s2, &f, &run).expect("at most 512 rows");
         let joined = migrate::pi(s2, s3, &g, &projected).expect("at most 512 rows");
-        let united = &outcome.tray[..length];
-        let united = Instance::accept(s4, &RANGES, united).expect("an accepted result");
+        let united = Instance::accept(s4, &outcome.tray[..length]).expect("an accepted result");
         let dig = Dig { schemas, f, g, h, run };
         Some(Opened { dig, projected, joined, united })
     }

@@ -27,9 +27,9 @@ fn the_stored_files_are_todays() {
 fn the_files_are_small_and_many_cases() {
     let (vectors, expected) = (stored("stdin"), stored("stdout"));
     // The program reads no more.
-    assert!(vectors.len() <= 1_310_720, "{} bytes", vectors.len());
+    assert!(vectors.len() <= 655_360, "{} bytes", vectors.len());
     let lines = expected.iter().filter(|&&byte| byte == b'\n').count();
-    assert!(lines > 9000, "{lines} cases");
+    assert!(lines > 7000, "{lines} cases");
 }
 
 /// The next two bytes as a number, and what follows them.

@@ -22,7 +22,7 @@ pub fn refused<T>(number: u8, place: u8) -> Result<T, Refusal> {
 
 /// The instance in an accepted sheet.
 pub fn decoded(schema: &Schema, sheet: &[u8]) -> Instance {
-    Instance::accept(schema, &RANGES, sheet).expect("an accepted instance")
+    Instance::accept(schema, sheet).expect("an accepted instance")
 }
 
 /// Sheets, each after its 16-bit byte length.

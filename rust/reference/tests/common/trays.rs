@@ -46,7 +46,7 @@ impl Trays {
     /// The run, over S.
     pub fn decoded_run(&self) -> Instance {
         let s = Schema::accept(&self.s).expect("an accepted schema");
-        Instance::accept(&s, &RANGES, self.run_sheet()).expect("an accepted instance")
+        Instance::accept(&s, self.run_sheet()).expect("an accepted instance")
     }
 
     /// Adds a row.

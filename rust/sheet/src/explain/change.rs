@@ -93,8 +93,7 @@ fn row_causes(
     // The run is accepted, so that no other row is a cause.
     let place = |_: usize, _: usize| lent.file.clone();
     let longer = run.with_row(schema, table, &row);
-    let (over, scale) = (question.s.as_ref()?, question.scale());
-    Some(instance::causes_in_rows(over, &scale, &longer, &place, number))
+    Some(instance::causes_in_rows(question.s.as_ref()?, &longer, &place, number))
 }
 
 fn full(lent: &Lent, schema: &Schema, run: &Instance) -> Cause {

@@ -3,17 +3,11 @@
 use super::{fault_cause, Cause};
 use crate::bits::counted;
 use crate::instance::Instance;
-use crate::kinds::{range_text, KINDS};
+use crate::kinds::{Kind, KINDS};
 use crate::lent::{Lent, LentSchema};
-use crate::scale::Scale;
 use crate::schema::Schema;
 
-pub(super) fn causes(
-    lent: &Lent,
-    over: &LentSchema,
-    scale: &Scale,
-    number: u8,
-) -> Option<Vec<Cause>> {
+pub(super) fn causes(lent: &Lent, over: &LentSchema, number: u8) -> Option<Vec<Cause>> {
     let schema = over.schema.as_ref().ok()?;
     let instance = match Instance::from_sheet(schema, &lent.sheet) {
         Ok(instance) => instance,
@@ -26,7 +20,7 @@ pub(super) fn causes(
         }
     };
     let place = |table, row| lent.row_place(&schema.node_name(table), row);
-    Some(causes_in_rows(over, scale, &instance, &place, number))
+    Some(causes_in_rows(over, &instance, &place, number))
 }
 
 /// Where a row of a table stands.
@@ -35,14 +29,13 @@ type Place<'a> = &'a dyn Fn(usize, usize) -> String;
 /// Causes in the rows of an instance.
 pub(super) fn causes_in_rows(
     over: &LentSchema,
-    scale: &Scale,
     instance: &Instance,
     place: Place,
     number: u8,
 ) -> Vec<Cause> {
     match (number, &over.schema) {
         (9, Ok(schema)) => dangling(schema, instance, place),
-        (10, Ok(schema)) => off_scale(schema, scale, instance, place),
+        (10, Ok(schema)) => off_scale(schema, instance, place),
         (11, Ok(schema)) => bent_rows(over, schema, instance, place),
         _ => Vec::new(),
     }
@@ -73,41 +66,33 @@ fn dangling(schema: &Schema, instance: &Instance, place: Place) -> Vec<Cause> {
     causes
 }
 
-fn off_scale(schema: &Schema, scale: &Scale, instance: &Instance, place: Place) -> Vec<Cause> {
+fn off_scale(schema: &Schema, instance: &Instance, place: Place) -> Vec<Cause> {
     let mut causes = Vec::new();
     for (number, column) in schema.columns.iter().enumerate() {
-        let range = scale.range(column.kind);
+        let Some(kind) = KINDS.get(column.kind) else { continue };
         for (row, &value) in instance.values[number].iter().enumerate() {
-            if !range.contains(&value) {
-                let (what, mend) = value_cause(scale, &column.name, column.kind, value);
-                causes.push(Cause::new(place(column.node, row), what).mend(mend));
+            if kind.range().contains(&value) {
+                continue;
             }
+            causes.push(value_cause(place(column.node, row), &column.name, kind, value));
         }
     }
     causes
 }
 
-/// What is wrong with a value off its kind's scale, and what would mend it.  A value from
-/// before the kind's range changed has a hint, where the value that is written now is on
-/// scale.
-fn value_cause(scale: &Scale, name: &str, number: usize, value: u32) -> (String, String) {
-    let (kind, range) = (&KINDS[number], scale.range(number));
-    let what =
-        format!("{name} {value}, but the kind {} runs from {}", kind.name, scale.told(number));
-    let former = kind.former.filter(|former| former.value == value && range.contains(&former.now));
-    if let Some(former) = former {
-        let what = format!("{what}; {} is written {}", former.meaning, former.now);
-        return (what, format!("write {name} {value} as {}", former.now));
+/// The cause where a column has a value off its kind's scale.
+fn value_cause(place: String, name: &str, kind: &Kind, value: u32) -> Cause {
+    if let Some(former) = kind.former.filter(|former| former.value == value) {
+        let what = format!("{name} {value}: {} is written {}", former.meaning, former.now);
+        return Cause::new(place, what).mend(format!("write {name} {value} as {}", former.now));
     }
+    let range = format!("{} to {}", kind.smallest, kind.largest);
+    let what = format!("{name} {value}, but the kind {} runs from {range}", kind.name);
     let unit = match kind.unit {
         "" => String::new(),
         unit => format!(" (in {unit})"),
     };
-    let mend = format!("correct {name} to {}{unit}", range_text(&range));
-    match scale.widening(number) {
-        Some(widening) => (what, format!("{mend}, or {widening}")),
-        None => (what, mend),
-    }
+    Cause::new(place, what).mend(format!("correct {name} to {range}{unit}"))
 }
 
 fn bent_rows(over: &LentSchema, schema: &Schema, instance: &Instance, place: Place) -> Vec<Cause> {

@@ -3,11 +3,11 @@
 
 use super::{fault_cause, Cause};
 use crate::bits::counted;
-use crate::call::Call;
+use crate::call::Role;
 use crate::instance::Instance;
 use crate::lent::Lent;
 use crate::matching::Matching;
-use crate::question::{Answer, Question};
+use crate::question::Question;
 use crate::schema::Schema;
 use crate::text::TextError;
 
@@ -68,23 +68,16 @@ fn count_cause(
 /// The instances that the list leads from and to: Sigma of the run and the
 /// book, or the run and Delta of the book.
 fn sides(question: &Question) -> Option<(Instance, Instance)> {
+    let sheet = |role| question.lent(role).map(|lent| lent.sheet.as_slice());
+    let (s, t, f) = (sheet(Role::S)?, sheet(Role::T)?, sheet(Role::Mapping)?);
     if question.call.is_pushed() {
-        let pushed = migrated(question, Call::Sigma)?;
+        let pushed = migration::sigma(s, t, f, sheet(Role::Run)?).ok()?;
         let pushed = Instance::from_sheet(question.t_schema()?, &pushed).ok()?;
         Some((pushed, question.book_decoded()?))
     } else {
-        let pulled = migrated(question, Call::Delta)?;
+        let pulled = migration::delta(s, t, f, sheet(Role::Book)?).ok()?;
         let pulled = Instance::from_sheet(question.s_schema()?, &pulled).ok()?;
         Some((question.run_decoded()?, pulled))
-    }
-}
-
-/// What a migration gives of what this question is lent.
-fn migrated(question: &Question, call: Call) -> Option<Vec<u8>> {
-    let question = Question { call, tray: None, ..question.clone() };
-    match question.ask() {
-        Ok(Answer::Sheet(sheet)) => Some(sheet),
-        _ => None,
     }
 }
 

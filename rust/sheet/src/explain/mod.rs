@@ -7,7 +7,6 @@ mod change;
 mod equal;
 mod even;
 mod instance;
-mod kinds;
 mod list;
 mod mapping;
 mod overfull;
@@ -60,8 +59,6 @@ pub struct Explanation {
     pub refusal: Refusal,
     /// The call.
     pub call: Call,
-    /// The call's name in the form in which it was made.
-    pub call_name: String,
     /// What the refused sheet is to the call, and its file; none at place 0.
     pub sheet: Option<(&'static str, String)>,
     /// The stage of a query that is refused at place 0; none of its tray.
@@ -87,13 +84,13 @@ impl fmt::Display for Explanation {
             cause.notes.iter().try_for_each(|note| writeln!(out, "  {note}"))?;
         }
         if self.causes.is_empty() {
-            let place = self.sheet.as_ref().map_or(&self.call_name, |(_, file)| file);
+            let place = self.sheet.as_ref().map_or(self.call.name(), |(_, file)| file);
             writeln!(out, "{place}: {} {tag}", self.sentence())?;
         }
         if self.causes.len() > MOST_SHOWN {
             writeln!(out, "and {} more like these", self.causes.len() - MOST_SHOWN)?;
         }
-        let call = &self.call_name;
+        let call = self.call.name();
         match &self.sheet {
             Some((role, file)) => {
                 write!(out, "{call} refused sheet {}, {role} ({file})", refusal.place)?
@@ -132,7 +129,7 @@ impl Question {
     /// What causes a refusal of this question.
     pub fn explain(&self, refusal: Refusal) -> Explanation {
         let role = usize::from(refusal.place).checked_sub(1);
-        let role = role.and_then(|place| self.roles().get(place).copied());
+        let role = role.and_then(|place| self.call.roles().get(place)).copied();
         let file = role.and_then(|role| self.lent(role)).map(|lent| lent.file.clone());
         let name = role.map(|role| role_name(self.call, role));
         let sheet = name.zip(file);
@@ -151,8 +148,7 @@ impl Question {
             Some(Role::Along(stage)) => stage.schema_names(),
             _ => self.schema_names,
         };
-        let (call, call_name) = (self.call, self.call_name());
-        Explanation { refusal, call, call_name, sheet, stage, schema_names, causes }
+        Explanation { refusal, call: self.call, sheet, stage, schema_names, causes }
     }
 
     fn causes_at(&self, role: Role, number: u8) -> Option<Vec<Cause>> {
@@ -163,15 +159,11 @@ impl Question {
             Role::Mapping => mapping::causes(self, number)?,
             Role::G => mapping::causes(&self.second_mapping(), number)?,
             Role::Along(stage) => mapping::causes(&self.at_stage(stage), number)?,
-            Role::Kinds => kinds::causes(self.kinds.as_ref()?, number),
             Role::Run => {
                 let over = self.lent_schema(self.call.run_schema())?;
-                instance::causes(self.run.as_ref()?, over, &self.scale(), number)?
+                instance::causes(self.run.as_ref()?, over, number)?
             }
-            Role::Book => {
-                let (book, over) = (self.book.as_ref()?, self.t.as_ref()?);
-                instance::causes(book, over, &self.scale(), number)?
-            }
+            Role::Book => instance::causes(self.book.as_ref()?, self.t.as_ref()?, number)?,
             Role::P => path::causes(self.p.as_ref()?, self.s_schema()?),
             Role::Q => path::causes(self.q.as_ref()?, self.s_schema()?),
             Role::List => list::causes(self, number)?,
@@ -216,7 +208,6 @@ fn role_name(call: Call, role: Role) -> &'static str {
         (Call::Compose, Role::Mapping) => "mapping F",
         (_, Role::G) => "mapping G",
         (_, Role::Mapping) => "the mapping",
-        (_, Role::Kinds) => "the kinds",
         (_, Role::Run) => "the run",
         (_, Role::Book) => "the book",
         (Call::FirstPath, Role::P) => "the path",

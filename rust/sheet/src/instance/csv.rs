@@ -4,7 +4,7 @@
 use super::{Instance, TableText};
 use crate::bits::counted;
 use crate::csv::{self, Record, FIELD_ROW};
-use crate::kinds::Kinds;
+use crate::kinds::{Kind, KINDS};
 use crate::names::{listed, ROW};
 use crate::schema::Schema;
 use crate::text::TextError;
@@ -22,27 +22,21 @@ enum Field {
 }
 
 impl Instance {
-    /// Reads the tables' texts, in the order of the schema's tables.  The list of kinds
-    /// is the one that the values will be held against; here it is only told of, where a
-    /// cell has no number.
+    /// Reads the tables' texts, in the order of the schema's tables.
     ///
     /// ```
-    /// # use sheet::{Kinds, TableText};
+    /// # use sheet::TableText;
     /// let text = "node Dent\ncolumn Dent.station : station\n";
     /// let (schema, _) = sheet::Schema::parse("s.schema", text).unwrap();
     /// let text = "row,station\n1,300\n0,700\n".to_string();
     /// let dents = TableText { file: "run/Dent.csv".to_string(), text };
-    /// let run = sheet::Instance::parse(&[dents], &schema, &Kinds::built_in()).unwrap();
+    /// let run = sheet::Instance::parse(&[dents], &schema).unwrap();
     /// assert_eq!(run.values, [[700, 300]]);
     /// ```
     ///
     /// # Errors
     /// Every cell, row or header that is not as expected.
-    pub fn parse(
-        tables: &[TableText],
-        schema: &Schema,
-        kinds: &Kinds,
-    ) -> Result<Self, Vec<TextError>> {
+    pub fn parse(tables: &[TableText], schema: &Schema) -> Result<Self, Vec<TextError>> {
         let expected = schema.nodes.len();
         if tables.len() != expected {
             let what = format!("{} given; expected {expected}", counted(tables.len(), "table"));
@@ -52,7 +46,7 @@ impl Instance {
         let mut errors = Vec::new();
         let mut lines = Vec::new();
         for (node, table) in tables.iter().enumerate() {
-            match read_table(table, schema, kinds, node) {
+            match read_table(table, schema, node) {
                 Ok(rows) => {
                     lines.push(rows.iter().map(|row| row.line).collect());
                     instance.take(schema, node, &rows);
@@ -168,10 +162,12 @@ fn field_name(schema: &Schema, field: Field) -> &str {
 }
 
 /// The numbers that are expected in a field; others are left to the proved call.
-fn expected(schema: &Schema, kinds: &Kinds, field: Field) -> RangeInclusive<u32> {
+fn expected(schema: &Schema, field: Field) -> RangeInclusive<u32> {
     match field {
         Field::Row | Field::Link(_) => 0..=u32::MAX,
-        Field::Value(column) => kinds.range(schema.columns[column].kind),
+        Field::Value(column) => {
+            KINDS.get(schema.columns[column].kind).map_or(0..=u32::MAX, Kind::range)
+        }
     }
 }
 
@@ -183,12 +179,7 @@ struct Row {
 }
 
 /// A table's rows in the order of their numbers.
-fn read_table(
-    table: &TableText,
-    schema: &Schema,
-    kinds: &Kinds,
-    node: usize,
-) -> Result<Vec<Row>, Vec<TextError>> {
+fn read_table(table: &TableText, schema: &Schema, node: usize) -> Result<Vec<Row>, Vec<TextError>> {
     let broken = |(line, what): csv::Broken| vec![TextError::at(&table.file, line, what)];
     let records = csv::records(&table.text).map_err(broken)?;
     let expected = header(schema, node).join(",");
@@ -200,7 +191,7 @@ fn read_table(
     let mut errors = Vec::new();
     let mut rows: Vec<(usize, Row)> = Vec::new();
     for record in body {
-        match read_row(record, &places, schema, kinds) {
+        match read_row(record, &places, schema) {
             Ok(row) => rows.push(row),
             Err(what) => errors.push(TextError::at(&table.file, record.line, what)),
         }
@@ -236,18 +227,13 @@ fn read_header(head: &Record, schema: &Schema, node: usize) -> Result<Vec<Field>
     }
 }
 
-fn read_row(
-    record: &Record,
-    places: &[Field],
-    schema: &Schema,
-    kinds: &Kinds,
-) -> Result<(usize, Row), String> {
+fn read_row(record: &Record, places: &[Field], schema: &Schema) -> Result<(usize, Row), String> {
     csv::within_headers(record, places.len())?;
     let (mut number, mut links, mut values) = (0, Vec::new(), Vec::new());
     for (place, &field) in places.iter().enumerate() {
         let cell = record.cells.get(place).map_or("", String::as_str);
         let told = |what: String| format!("{} {what}", field_name(schema, field));
-        let found = csv::number(cell, u32::MAX, expected(schema, kinds, field)).map_err(told)?;
+        let found = csv::number(cell, u32::MAX, expected(schema, field)).map_err(told)?;
         match field {
             Field::Row => number = found as usize,
             Field::Link(link) => links.push((link, found)),

@@ -3,7 +3,7 @@
 use super::Instance;
 use crate::bits::{BitReader, BitWriter, Fault, Unwritable};
 use crate::csv::{self, FIELD_ROW};
-use crate::kinds::{self, Kinds};
+use crate::kinds::{self, Kind, KINDS};
 use crate::names::listed;
 use crate::schema::Schema;
 
@@ -139,7 +139,7 @@ fn read_word(
         None => csv::number(cell, FIELD_ROW as u32, 0..=FIELD_ROW as u32),
         Some(column) => {
             let kind = schema.columns[schema.columns_at(table)[column]].kind;
-            csv::number(cell, u32::MAX, Kinds::built_in().range(kind))
+            csv::number(cell, u32::MAX, KINDS.get(kind).map_or(0..=u32::MAX, Kind::range))
         }
     };
     read.map(|number| (place, number)).map_err(|what| format!("{name} {what}"))

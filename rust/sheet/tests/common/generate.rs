@@ -1,9 +1,6 @@
-//! Schemas, mappings, instances, matchings and lists of kinds at random, with fixed
-//! seeds.
+//! Schemas, mappings, instances and matchings at random, with fixed seeds.
 
-use sheet::{
-    all_paths, Column, Equation, Instance, Kinds, Link, Mapping, Matching, Path, Row, Schema,
-};
+use sheet::{all_paths, Column, Equation, Instance, Link, Mapping, Matching, Path, Row, Schema};
 pub use vectors::random::Random;
 
 /// A name that none of `taken` is, whatever the case of letters.
@@ -109,43 +106,16 @@ pub fn any_instance(random: &mut Random, schema: &Schema, most_rows: usize) -> I
     Instance { rows, links, values }
 }
 
-/// Some list of kinds, whether or not it is accepted.
-pub fn any_kinds(random: &mut Random) -> Kinds {
-    let mut number = || (random.bits() as u32) >> random.below(32);
-    Kinds { ranges: std::array::from_fn(|_| number()..=number()) }
-}
-
-/// A list of kinds that the calls accept, some of its ranges the built-in ones.
-pub fn kinds(random: &mut Random) -> Kinds {
-    let (any, mut kinds) = (any_kinds(random), Kinds::built_in());
-    for (range, found) in kinds.ranges[..15].iter_mut().zip(any.ranges) {
-        let (a, b) = found.into_inner();
-        if random.below(3) > 0 {
-            *range = a.min(b)..=a.max(b);
-        }
-    }
-    kinds
-}
-
 /// An instance whose links and values are as they may be, whether or not it
 /// obeys the equations.
 pub fn linked_instance(random: &mut Random, schema: &Schema, most_rows: usize) -> Instance {
-    linked_instance_within(random, schema, most_rows, &Kinds::built_in())
-}
-
-fn linked_instance_within(
-    random: &mut Random,
-    schema: &Schema,
-    most_rows: usize,
-    kinds: &Kinds,
-) -> Instance {
     let mut found = any_instance(random, schema, most_rows);
     for (targets, link) in found.links.iter_mut().zip(&schema.links) {
         let count = found.rows[link.target].max(1);
         targets.iter_mut().for_each(|target| *target %= count);
     }
     for (values, column) in found.values.iter_mut().zip(&schema.columns) {
-        let (smallest, largest) = kinds.range(column.kind).into_inner();
+        let (smallest, largest) = sheet::kinds::KINDS[column.kind].range().into_inner();
         values.iter_mut().for_each(|value| *value = (*value % 3).clamp(smallest, largest));
     }
     found
@@ -158,26 +128,6 @@ pub fn instance(random: &mut Random, schema: &Schema, most_rows: usize) -> Insta
         let found = linked_instance(random, schema, most_rows);
         let instance_sheet = found.to_sheet().expect("a small instance");
         if migration::check_instance(&sheet, &instance_sheet).is_ok() {
-            return found;
-        }
-    }
-    Instance::empty(schema)
-}
-
-/// An instance that is accepted with a list of kinds, or after many vain attempts one
-/// without rows.  It is pulled back along the mapping of each to itself.
-pub fn instance_within(
-    random: &mut Random,
-    schema: &Schema,
-    most_rows: usize,
-    kinds: &Kinds,
-) -> Instance {
-    let (s, same) = (schema.to_sheet().expect("a small schema"), copies(schema, 1).1);
-    let (same, kinds_sheet) = (same.to_sheet().expect("a small mapping"), kinds.to_sheet());
-    for _ in 0..60 {
-        let found = linked_instance_within(random, schema, most_rows, kinds);
-        let sheet = found.to_sheet().expect("a small instance");
-        if migration::delta_with_kinds(&kinds_sheet, &s, &s, &same, &sheet).is_ok() {
             return found;
         }
     }

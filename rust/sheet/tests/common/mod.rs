@@ -184,18 +184,6 @@ impl Ran {
 /// S, T and mapping of the base and book examples.
 pub const MAPPED: &str = "vendor.schema operator.schema vendor-to-operator.mapping";
 
-/// The commands with a second form, the calls that they make, and what these are lent in
-/// the base example and the book example.
-pub const FORMS: [(&str, &str, &[&str]); 7] = [
-    ("delta", "delta", &["book"]),
-    ("sigma", "sigma", &["run"]),
-    ("pi", "pi", &["run"]),
-    ("match pushed", "check_pushed", &["run", "book", "pushed.csv"]),
-    ("match raw", "check_raw", &["run", "book", "raw.csv"]),
-    ("turn pushed-to-raw", "pushed_to_raw", &["run", "book", "pushed.csv"]),
-    ("turn raw-to-pushed", "raw_to_pushed", &["run", "book", "raw.csv"]),
-];
-
 /// The four schemas of the dig example.
 pub const DIG_SCHEMAS: &str = "vendor.schema needed.schema joined.schema digs.schema";
 

@@ -71,14 +71,8 @@ impl InstanceDamage {
         }
     }
 
-    /// The damaged sheet of an instance whose values are in these ranges.
-    pub fn done_to(
-        self,
-        random: &mut Random,
-        schema: &Schema,
-        ranges: &Ranges,
-        old: &Instance,
-    ) -> Option<Vec<u8>> {
+    /// The damaged sheet.
+    pub fn done_to(self, random: &mut Random, schema: &Schema, old: &Instance) -> Option<Vec<u8>> {
         let mut instance = old.clone();
         let counts_bytes = (10 * schema.nodes).div_ceil(8);
         match self {
@@ -92,17 +86,17 @@ impl InstanceDamage {
                 dangle(random, schema, &mut instance, |count| count)?;
             }
             DanglingFar => dangle(random, schema, &mut instance, |_| 511)?,
-            BelowByOne => put_off_scale(random, schema, ranges, &mut instance, &[one_below])?,
-            AboveByOne => put_off_scale(random, schema, ranges, &mut instance, &[one_above])?,
-            AboveFar => put_off_scale(random, schema, ranges, &mut instance, &[far_above])?,
+            BelowByOne => put_off_scale(random, schema, &mut instance, &[one_below])?,
+            AboveByOne => put_off_scale(random, schema, &mut instance, &[one_above])?,
+            AboveFar => put_off_scale(random, schema, &mut instance, &[far_above])?,
             BentRow => bend(random, schema, &mut instance)?,
             DanglingAndOffScale => {
                 dangle(random, schema, &mut instance, |count| count)?;
-                put_off_scale(random, schema, ranges, &mut instance, &[one_below, one_above])?;
+                put_off_scale(random, schema, &mut instance, &[one_below, one_above])?;
             }
             OffScaleAndBent => {
                 bend(random, schema, &mut instance)?;
-                put_off_scale(random, schema, ranges, &mut instance, &[one_below, one_above])?;
+                put_off_scale(random, schema, &mut instance, &[one_below, one_above])?;
             }
         }
         let mut sheet = instance.to_sheet();
@@ -153,13 +147,12 @@ pub(super) fn far_above(range: &RangeInclusive<u32>) -> Option<u32> {
 fn put_off_scale(
     random: &mut Random,
     schema: &Schema,
-    ranges: &Ranges,
     instance: &mut Instance,
     sides: &[OffScale],
 ) -> Option<()> {
     let mut choices = Vec::new();
     for (a, attribute) in schema.attributes.iter().enumerate() {
-        let values = sides.iter().filter_map(|side| side(&ranges[attribute.kind]));
+        let values = sides.iter().filter_map(|side| side(&RANGES[attribute.kind]));
         if !instance.values[a].is_empty() {
             choices.extend(values.map(|value| (a, value)));
         }

@@ -2,7 +2,6 @@
 //! that document 01 gives for it.
 
 mod instance;
-mod kinds;
 mod list;
 mod mapping;
 mod path;
@@ -12,7 +11,7 @@ mod schema;
 use crate::call::{Call, Kind};
 use crate::random::Random;
 use crate::world::Sheet;
-use reference::plain::{Instance, Mapping, Matching, Ranges, Schema, RANGES};
+use reference::plain::{Instance, Mapping, Matching, Schema};
 
 /// A way to damage a sheet.
 #[derive(Debug, Clone, Copy, PartialEq, Eq, PartialOrd, Ord)]
@@ -41,12 +40,9 @@ pub enum Damage {
     List(list::ListDamage),
     /// Damage to a row that is added.
     Row(row::RowDamage),
-    /// Damage to a kinds sheet.
-    Kinds(kinds::KindsDamage),
 }
 
 pub use instance::InstanceDamage;
-pub use kinds::KindsDamage;
 pub use list::ListDamage;
 pub use mapping::MappingDamage;
 pub use path::PathDamage;
@@ -73,11 +69,8 @@ impl Damage {
             Kind::Path => PathDamage::ALL.map(Damage::Path).to_vec(),
             Kind::List => ListDamage::ALL.map(Damage::List).to_vec(),
             Kind::Row => RowDamage::ALL.map(Damage::Row).to_vec(),
-            Kind::Kinds => KindsDamage::ALL.map(Damage::Kinds).to_vec(),
         };
-        // A kinds sheet has no filling: 16 pairs of 32 bits end with a byte.
-        let can_suffer = |damage: &Damage| *damage != Damage::FillingBit || kind != Kind::Kinds;
-        OF_ANY_SHEET.into_iter().filter(can_suffer).chain(own).collect()
+        OF_ANY_SHEET.into_iter().chain(own).collect()
     }
 
     /// The number that the damaged sheet is sent back with.
@@ -91,7 +84,6 @@ impl Damage {
             Damage::Path(_) => 4,
             Damage::List(_) => 17,
             Damage::Row(damage) => damage.number(),
-            Damage::Kinds(damage) => damage.number(),
         }
     }
 
@@ -119,16 +111,14 @@ impl Damage {
                 done.f.to_sheet()
             }
             (Damage::Instance(damage), Sheet::Instance(instance), Kind::Instance { of }) => {
-                damage.done_to(random, schema(of), ranges_of(lent), instance)?
+                damage.done_to(random, schema(of), instance)?
             }
             (Damage::Path(damage), Sheet::Path(path), _) => {
                 damage.done_to(random, schema(1), path)?
             }
             (Damage::List(damage), Sheet::List(list), _) => {
-                let of_first_form = &lent[usize::from(call.takes_kinds())..];
-                damage.done_to(random, &list::Sides::of(call.first_form(), of_first_form)?, list)?
+                damage.done_to(random, &list::Sides::of(call, lent)?, list)?
             }
-            (Damage::Kinds(damage), Sheet::Kinds(kinds), _) => damage.done_to(random, kinds),
             (Damage::Row(damage), Sheet::Row { table, row }, _) => {
                 damage.done_to(random, schema(1), run_of(lent), *table, row)?
             }
@@ -178,15 +168,6 @@ fn schema_at(lent: &[Sheet], place: usize) -> &Schema {
     }
 }
 
-/// The ranges that values are judged by: those of a kinds sheet, which comes first, or the
-/// built-in list.
-fn ranges_of(lent: &[Sheet]) -> &Ranges {
-    match &lent[0] {
-        Sheet::Kinds(kinds) => &kinds.ranges,
-        _ => &RANGES,
-    }
-}
-
 /// The run that a change is lent.
 fn run_of(lent: &[Sheet]) -> &Instance {
     match &lent[3] {
@@ -222,7 +203,6 @@ fn filling_bits(lent: &[Sheet], place: usize) -> usize {
         Sheet::Path(path) => 8 + 5 * path.edges.len(),
         Sheet::List(Matching { partners }) => 9 * partners.iter().map(Vec::len).sum::<usize>(),
         Sheet::Row { row, .. } => 9 * row.links.len() + 32 * row.values.len(),
-        Sheet::Kinds(kinds) => 64 * kinds.ranges.len(),
     };
     bits.next_multiple_of(8) - bits
 }

@@ -20,14 +20,14 @@ loop-holds c = passed_start _ _ _
 
 rows-of-requires : tie.Need-rows-of-requires invariant-loop decreases-loop
 rows-of-requires c κs =
-    let C = c.before.before.before.before.before.before.before.requires.1 in
+    let C = c.before.before.before.before.before.before.requires.0 in
     (omega (arith, C.homes), C.tables c.before.loop.a c.loop-test.true)
 
 shared-slice-read-range-of : tie.Need-shared-slice-read-range-of invariant-loop decreases-loop
 shared-slice-read-range-of c = omega arith
 
 cast-range-of : tie.Need-overflow-cast-range-of invariant-loop decreases-loop
-cast-range-of c = omega (arith, c.shared-slice-known6.given c.before.before.before.loop.a)
+cast-range-of c = omega (arith, c.shared-slice-known5.given c.before.before.before.loop.a)
 
 range-of-requires : tie.Need-range-of-requires invariant-loop decreases-loop
 range-of-requires c κs = search rules
@@ -36,7 +36,7 @@ mul-column-within : tie.Need-overflow-mul-column-within invariant-loop decreases
 mul-column-within c = omega arith
 
 column-within-requires : tie.Need-column-within-requires invariant-loop decreases-loop
-column-within-requires c κs = omega (arith, c.before.before.rows_of_lem.ensures, c.before.before.before.before.before.before.before.before.before.before.requires.1.rows c.before.before.before.before.loop.a c.before.before.before.loop-test.true)
+column-within-requires c κs = omega (arith, c.before.before.rows_of_lem.ensures, c.before.before.before.before.before.before.before.before.before.requires.0.rows c.before.before.before.before.loop.a c.before.before.before.loop-test.true)
 
 add_a : tie.Need-overflow-add-a invariant-loop decreases-loop
 add_a c = omega arith

@@ -27,15 +27,15 @@ slice-aggregate-columns-in-range-3 c = search rules
 
 columns-in-range-requires : tie.Need-columns-in-range-requires
 columns-in-range-requires c κs =
-    let z = c.before.before.before.before.before.before.before.before in
+    let z = c.before.before.before.before.before.before.before in
     let a = z.args in
-    let A = z.requires.1 in
-    let L = z.requires.2 in
+    let A = z.requires.0 in
+    let L = z.requires.1 in
     let e = A.limits.attributes in
-    (z.requires.0, value-columns a.schema A a.instance.counts L.rows L.long (node_long z), omega (arith, kind-long z), omega arith)
+    (value-columns a.schema A a.instance.counts L.rows L.long (node_long z), omega (arith, kind-long z), omega arith)
 
 returns : tie.Need-returns
-returns c = let z = c.before.before.before.before.before.before.before.before.before in c.columns-in-range.ensures ∙ sym (values-test z.args.schema z.requires.1 z.args.instance [] z.args.values.now (kinds_of z.args.kinds.now))
+returns c = let z = c.before.before.before.before.before.before.before.before in c.columns-in-range.ensures ∙ sym (values-test z.args.schema z.requires.0 z.args.instance [] z.args.values.now (kinds_of z.args.kinds))
 
 pub values-in-range-spec : {M : Type 1} → statement M
 values-in-range-spec =

@@ -1,7 +1,7 @@
 -- `migration::checks::check_mapping` meets its contract.
 use mathlib.Core.Path.{ap, ◌∙◌}
 use Rattle.meaning.specs.Calls.{Migration}
-use Rattle.schema.specs.Decoded.{category_of}
+use Rattle.schema.specs.Decoded.{schema_of}
 use Rattle.mapping.specs.Decoded.{mapping_of}
 use Rattle.mapping.proofs.Sides.{numbers}
 use Rattle.steps.specs.declared.Refusal.{Refusal}
@@ -36,7 +36,7 @@ returns c =
     let target = c.before.before.before.before.before.before.before.before.judge-schema2 in
     let m = c.before.before.judge-mapping in
     let x = c.before.before.before.before.before.before.before.before.before.before.before.before.before.args in
-    let M : Migration = record { S = category_of source.result; T = category_of target.result; F = mapping_of source.result m.result } in
+    let M : Migration = record { S = schema_of source.result; T = schema_of target.result; F = mapping_of source.result m.result } in
     c.verdict.ensures
     ∙ ap (λ (r : Refusal). outcome_of r tt) c.before.first.ensures
     ∙ yields (first_refusal source.result.fault target.result.fault m.result.fault) M (mapping-opened source.result x.s.now source.ensures.says target.result m.result x.t.now x.f.now target.ensures.says m.ensures.says) (λ _. tt)

@@ -16,7 +16,7 @@ slice-aggregate-join-run-3 : tie.Need-slice-aggregate-join-run-3
 slice-aggregate-join-run-3 c = search rules
 
 join-run-requires : tie.Need-join-run-requires
-join-run-requires c κs = let z = c.before.before.before.before.before.before.requires in (z.0, few-room z.1 (search rules) (search rules), search rules, z.2)
+join-run-requires c κs = let z = c.before.before.before.before.before.requires in (z.0, few-room z.1 (search rules) (search rules), search rules)
 
 slice-aggregate-write-joined : tie.Need-slice-aggregate-write-joined
 slice-aggregate-write-joined c = search rules
@@ -31,7 +31,7 @@ same_length : tie.Need-same-length
 same_length c = search rules
 
 returns : tie.Need-returns
-returns c = c.before.before.write-joined.ensures ∙ ap (λ (o : Outcome Migrated). in_tray c.before.before.before.before.before.before.before.before.before.before.before.before.before.before.before.before.args.tray.now (sheet_of o)) c.before.before.before.before.before.before.before.before.before.join-run.ensures.says
+returns c = c.before.before.write-joined.ensures ∙ ap (λ (o : Outcome Migrated). in_tray c.before.before.before.before.before.before.before.before.before.before.before.before.before.before.before.args.tray.now (sheet_of o)) c.before.before.before.before.before.before.before.before.before.join-run.ensures.says
 
 pub pi-of-few-spec : {M : Type 1} → statement M
 pi-of-few-spec =

@@ -24,9 +24,9 @@ slice-aggregate-match-in-6 c = search rules
 
 match-in-requires : tie.Need-match-in-requires
 match-in-requires c κs =
-    let z = c.before.before.before.before.before.before.before.before.before.before.before.before.requires in
+    let z = c.before.before.before.before.before.before.before.before.before.before.before.requires in
     let S = z.0.schemas in
-    (z.0, record { run = room_for S.source (search rules); book = room_for S.target (search rules); pushed = room_for S.target (search rules); pulled = room_for S.source (search rules) }, z.1, z.2)
+    (z.0, record { run = room_for S.source (search rules); book = room_for S.target (search rules); pushed = room_for S.target (search rules); pulled = room_for S.source (search rules) }, z.1)
 
 same_length : tie.Need-same-length
 same_length c = search rules

@@ -26,10 +26,10 @@ slice-aggregate-match-in-6 c = search rules
 
 match-in-requires : tie.Need-match-in-requires
 match-in-requires c κs =
-    let z = c.before.before.before.before.before.before.before.before.before.before.before.before.requires in
-    let o = c.before.before.before.before.before.before.before.before.before.before.before.before.args.opened in
+    let z = c.before.before.before.before.before.before.before.before.before.before.before.requires in
+    let o = c.before.before.before.before.before.before.before.before.before.before.before.args.opened in
     let h = and_both (has_few_columns o.source) (has_few_columns o.target) z.1 in
-    (z.0, record { run = few-room h.0 (search rules) (search rules); book = few-room h.1 (search rules) (search rules); pushed = few-room h.1 (search rules) (search rules); pulled = few-room h.0 (search rules) (search rules) }, z.2, z.3)
+    (z.0, record { run = few-room h.0 (search rules) (search rules); book = few-room h.1 (search rules) (search rules); pushed = few-room h.1 (search rules) (search rules); pulled = few-room h.0 (search rules) (search rules) }, z.2)
 
 same_length : tie.Need-same-length
 same_length c = search rules

@@ -10,9 +10,9 @@ open-sides-requires c κs = search rules
 
 judge-side-requires : tie.Need-judge-side-requires
 judge-side-requires c κs =
-    let z = c.before.before.before.before.before.before.before.before.before.before.before.before.before.before.before.before.before.before.before.before.before.before.before.before.before.before.before.before.before.before.before.before.before.before.before.before.before.requires in
+    let z = c.before.before.before.before.before.before.before.before.before.before.before.before.before.before.before.before.before.before.before.before.before.before.before.before.before.before.before.before.before.before.before.before.before.before.before.before.requires in
     let o = c.before.before.before.before.before.before.before.before.before.before.before.before.before.before.before.before.before.before.before.before.before.open-sides in
-    let l = o.auto.1.1.1.1 in
+    let l = o.auto.1.1.1 in
     (o.ensures.migratable c.before.before.before.before.before.before.before.before.before.before.if1.true, rooms-kept o.ensures.same z.1 l.0 l.1.0 l.1.1.0 l.1.1.1.0, z.2)
 
 same_length : tie.Need-same-length
@@ -38,9 +38,9 @@ same-length-7 c = search rules
 
 returns : tie.Need-returns
 returns c =
-    let a = c.before.before.before.before.before.before.before.before.before.before.before.before.before.before.before.before.before.before.before.before.before.before.before.before.before.before.before.before.before.before.before.before.before.before.before.before.before.before.before.before.before.before.before.before.args in
+    let a = c.before.before.before.before.before.before.before.before.before.before.before.before.before.before.before.before.before.before.before.before.before.before.before.before.before.before.before.before.before.before.before.before.before.before.before.before.before.before.before.before.before.before.before.args in
     let o = c.before.before.before.before.before.before.before.before.before.before.before.before.before.before.before.before.before.before.before.before.before.before.before.before.before.before.before.before.open-sides in
-    let l = o.new.1.1.1.1 in
+    let l = o.new.1.1.1 in
     let j = c.before.before.before.before.before.before.judge-side in
     side-judged o.result l.0 l.1.0 l.1.1.0 l.1.1.1.0 j.new.1.1.1.1.1.1.1.0 o.ensures (λ y. side_list a.side y a.k.now) j.result c.before.before.before.before.before.before.before.before.before.before.before.before.before.before.before.before.before.if1.true j.ensures
 
@@ -58,9 +58,9 @@ same-length-11 c = search rules
 
 returns-2 : tie.Need-returns-2
 returns-2 c =
-    let a = c.before.before.before.before.before.before.before.before.before.before.before.before.before.before.before.before.before.before.before.before.before.before.before.before.before.before.before.args in
+    let a = c.before.before.before.before.before.before.before.before.before.before.before.before.before.before.before.before.before.before.before.before.before.before.before.before.before.before.args in
     let o = c.before.before.before.before.before.before.before.before.before.before.before.open-sides in
-    let l = o.new.1.1.1.1 in
+    let l = o.new.1.1.1 in
     side-stopped o.result l.0 l.1.0 l.1.1.0 l.1.1.1.0 a.list.now o.ensures (λ y. side_list a.side y a.k.now) c.if1.false
 
 pub match-in-spec : {M : Type 1} → statement M

@@ -22,10 +22,10 @@ slice-aggregate-delta-tables-4 c = search rules
 
 delta-tables-requires : tie.Need-delta-tables-requires
 delta-tables-requires c κs =
-    let z = c.before.before.before.before.before.before.before.requires in
-    let o = c.before.before.before.before.before.before.before.args.opened in
+    let z = c.before.before.before.before.before.before.requires in
+    let o = c.before.before.before.before.before.before.args.opened in
     let h = and_both (has_few_columns o.source) (has_few_columns o.target) z.1 in
-    (z.0, few-room h.1 (search rules) (search rules), few-room h.0 (search rules) (search rules), z.2)
+    (z.0, few-room h.1 (search rules) (search rules), few-room h.0 (search rules) (search rules))
 
 slice-aggregate-write-migrated : tie.Need-slice-aggregate-write-migrated
 slice-aggregate-write-migrated c = search rules
@@ -40,7 +40,7 @@ same_length : tie.Need-same-length
 same_length c = search rules
 
 returns : tie.Need-returns
-returns c = c.before.before.write-migrated.ensures ∙ ap (λ (o : Outcome Migrated). in_tray c.before.before.before.before.before.before.before.before.before.before.before.before.before.before.before.before.before.before.args.tray.now (sheet_of o)) c.before.before.before.before.before.before.before.before.before.before.delta-tables.ensures.says
+returns c = c.before.before.write-migrated.ensures ∙ ap (λ (o : Outcome Migrated). in_tray c.before.before.before.before.before.before.before.before.before.before.before.before.before.before.before.before.before.args.tray.now (sheet_of o)) c.before.before.before.before.before.before.before.before.before.before.delta-tables.ensures.says
 
 pub delta-of-few-spec : {M : Type 1} → statement M
 delta-of-few-spec =

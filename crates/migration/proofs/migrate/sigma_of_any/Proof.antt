@@ -19,7 +19,7 @@ slice-aggregate-sigma-tables-4 : tie.Need-slice-aggregate-sigma-tables-4
 slice-aggregate-sigma-tables-4 c = search rules
 
 sigma-tables-requires : tie.Need-sigma-tables-requires
-sigma-tables-requires c κs = let z = c.before.before.before.before.before.before.before.requires.0 in (z, room_for z.schemas.source (search rules), room_for z.schemas.target (search rules), c.before.before.before.before.before.before.before.requires.1)
+sigma-tables-requires c κs = let z = c.before.before.before.before.before.before.requires in (z, room_for z.schemas.source (search rules), room_for z.schemas.target (search rules))
 
 slice-aggregate-write-migrated : tie.Need-slice-aggregate-write-migrated
 slice-aggregate-write-migrated c = search rules
@@ -34,7 +34,7 @@ same_length : tie.Need-same-length
 same_length c = search rules
 
 returns : tie.Need-returns
-returns c = c.before.before.write-migrated.ensures ∙ ap (λ (o : Outcome Migrated). in_tray c.before.before.before.before.before.before.before.before.before.before.before.before.before.before.before.before.before.before.args.tray.now (sheet_of o)) c.before.before.before.before.before.before.before.before.before.before.sigma-tables.ensures.says
+returns c = c.before.before.write-migrated.ensures ∙ ap (λ (o : Outcome Migrated). in_tray c.before.before.before.before.before.before.before.before.before.before.before.before.before.before.before.before.before.args.tray.now (sheet_of o)) c.before.before.before.before.before.before.before.before.before.before.sigma-tables.ensures.says
 
 pub sigma-of-any-spec : {M : Type 1} → statement M
 sigma-of-any-spec =

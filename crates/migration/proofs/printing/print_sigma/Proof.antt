@@ -1,32 +1,23 @@
 -- `migration::printing::print_sigma` meets its contract.
 use mathlib.Core.Path.{sym, ◌∙◌}
-use Rattle.agreement.proofs.Categories.{listed_kind}
-use Rattle.agreement.proofs.Ranges.{built_in}
 use Rattle.agreement.proofs.Agrees.{sigma_agrees}
 use Rattle.steps.proofs.Opening.{is-opened}
 use Rattle.migration.proofs.Pushing.{sigma-told}
 use Rattle.steps.proofs.Texts.{printable, prints}
-use Rattle.meaning.specs.Formats.{kinds}
 use borrow.Author.Rules.{rules}
 use Rattle.migration.proofs.printing.print_sigma.Statement.{statement}
 use Rattle.migration.proofs.printing.print_sigma.Tie as tie
 
-kinds-requires : tie.Need-kinds-requires
-kinds-requires c κs = search rules
-
-slice-aggregate-sigma-tables : tie.Need-slice-aggregate-sigma-tables
-slice-aggregate-sigma-tables c = search rules
-
 sigma-tables-requires : tie.Need-sigma-tables-requires
-sigma-tables-requires c κs = let z = c.before.before.before.before.before.before.before.before.before.before.before.before.requires in (is-opened z.0.opens, z.1, z.2, search rules)
+sigma-tables-requires c κs = let z = c.before.before.before.before.before.before.before.before.before.before.requires in (is-opened z.0.opens, z.1, z.2)
 
 print-requires : tie.Need-print-requires
 print-requires c κs =
-    let z = c.before.before.before.before.before.before.before.before.before.before.before.before.before.before.before.before.before.before.before.before.before.before.before.before.requires in
+    let z = c.before.before.before.before.before.before.before.before.before.before.before.before.before.before.before.before.before.before.before.before.before.before.requires in
     let F = z.0 in
-    let i = c.before.before.before.before.before.before.before.before.before.before.before.before.before.before.before.before.before.before.before.before.before.before.before.before.args.i.now in
-    let told = sigma-told kinds F.s F.t F.f i F.opens in
-    (printable (rw c.before.before.before.before.before.before.before.before.before.before.before.before.before.before.before.before.before.kinds.ensures at c.before.before.before.before.before.before.before.before.before.before.before.sigma-tables.ensures) (λ N e. let a = sigma_agrees listed_kind built_in F.s F.t F.f i (sym told ∙ e) in (a.T.schema, a.lendable)), z.3)
+    let i = c.before.before.before.before.before.before.before.before.before.before.before.before.before.before.before.before.before.before.before.before.before.before.args.i.now in
+    let told = sigma-told F.s F.t F.f i F.opens in
+    (printable c.before.before.before.before.before.before.before.before.before.before.before.sigma-tables.ensures (λ N e. let a = sigma_agrees F.s F.t F.f i (sym told ∙ e) in (a.T, a.lendable)), z.3)
 
 same_length : tie.Need-same-length
 same_length c = search rules
@@ -44,14 +35,12 @@ same-length-5 : tie.Need-same-length-5
 same-length-5 c = search rules
 
 returns : tie.Need-returns
-returns c = prints (rw c.before.before.before.before.before.before.before.before.before.before.before.before.before.before.before.before.before.before.before.before.kinds.ensures at c.before.before.before.before.before.before.before.before.before.before.before.before.before.before.sigma-tables.ensures) c.before.before.before.before.before.before.before.before.before.before.before.before.before.before.before.before.before.before.before.before.before.before.before.before.before.before.before.requires.3 c.before.before.print.ensures
+returns c = prints c.before.before.before.before.before.before.before.before.before.before.before.before.before.before.sigma-tables.ensures c.before.before.before.before.before.before.before.before.before.before.before.before.before.before.before.before.before.before.before.before.before.before.before.before.before.requires.3 c.before.before.print.ensures
 
 pub print-sigma-spec : {M : Type 1} → statement M
 print-sigma-spec =
     tie.close
     (tie.spec
-    kinds-requires
-    slice-aggregate-sigma-tables
     sigma-tables-requires
     print-requires
     same_length

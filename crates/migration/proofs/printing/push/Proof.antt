@@ -10,8 +10,6 @@ use Rattle.steps.specs.Printed.{printed_into}
 use Rattle.steps.specs.Runs.{run_input, evenly_pushed}
 use Rattle.migration.proofs.Pushing.{sigma-told}
 use Rattle.steps.proofs.Texts.{prints-nothing}
-use Rattle.meaning.specs.Formats.{kinds}
-use Rattle.meaning.specs.SchemaKinds.{listed}
 use borrow.Author.Rules.{rules}
 use Rattle.migration.proofs.printing.push.Statement.{statement}
 use Rattle.migration.proofs.printing.push.Tie as tie
@@ -20,10 +18,10 @@ use Rattle.migration.proofs.printing.push.Tie as tie
 from-input : (c : tie.After-nth-sheet4) → FromSheets c.before.«open».result
 from-input c = record { s = c.before.before.before.before.nth-sheet.result.now; t = c.before.before.before.nth-sheet2.result.now; f = c.before.before.nth-sheet3.result.now; opens = c.before.«open».ensures }
 
-text-is : (c : tie.After-nth-sheet4) → shown (evenly_pushed (run_input kinds (opened_of c.before.«open».result) c.nth-sheet4.result.now)) ≡ push c.before.before.before.before.before.before.before.before.args.input.now
+text-is : (c : tie.After-nth-sheet4) → shown (evenly_pushed (run_input (opened_of c.before.«open».result) c.nth-sheet4.result.now)) ≡ push c.before.before.before.before.before.before.before.before.args.input.now
 text-is c =
-    ap shown (sigma-told kinds c.before.before.before.before.nth-sheet.result.now c.before.before.before.nth-sheet2.result.now c.before.before.nth-sheet3.result.now c.nth-sheet4.result.now c.before.«open».ensures)
-    ∙ ap₂ (λ (x y : List ℕ × List ℕ). shown (sigma_tables listed kinds x.0 x.1 y.0 y.1)) (ap₂ (λ (a b : List ℕ). (a, b)) c.before.before.before.before.nth-sheet.ensures c.before.before.before.nth-sheet2.ensures) (ap₂ (λ (a b : List ℕ). (a, b)) c.before.before.nth-sheet3.ensures c.nth-sheet4.ensures)
+    ap shown (sigma-told c.before.before.before.before.nth-sheet.result.now c.before.before.before.nth-sheet2.result.now c.before.before.nth-sheet3.result.now c.nth-sheet4.result.now c.before.«open».ensures)
+    ∙ ap₂ (λ (x y : List ℕ × List ℕ). shown (sigma_tables x.0 x.1 y.0 y.1)) (ap₂ (λ (a b : List ℕ). (a, b)) c.before.before.before.before.nth-sheet.ensures c.before.before.before.nth-sheet2.ensures) (ap₂ (λ (a b : List ℕ). (a, b)) c.before.before.nth-sheet3.ensures c.nth-sheet4.ensures)
 
 returns : tie.Need-returns
 returns c = prints-nothing (push c.before.before.before.args.input.now) c.before.before.before.args.out.now c.if1.true

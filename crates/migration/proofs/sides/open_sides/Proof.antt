@@ -4,13 +4,12 @@ use Rattle.steps.specs.declared.Refusal.{Refusal}
 use Rattle.steps.specs.Answers.{or_next}
 use Rattle.steps.proofs.Refusing.{refusal}
 use Rattle.migration.proofs.Opening.{sides-ready, sides-open, sides-stopped}
-use Rattle.instance.specs.Ranges.{kinds_of}
 use borrow.Author.Rules.{rules}
 use Rattle.migration.proofs.sides.open_sides.Statement.{statement}
 use Rattle.migration.proofs.sides.open_sides.Tie as tie
 
 -- the first refusal of the sheets
-joined : (c : tie.After-struct-known) → c.before.or2.result ≡ or_next (or_next c.before.before.before.before.before.before.before.before.before.before.before.before.before.before.before.before.before.before.before.before.before.before.before.before.before.before.before.args.opened.refusal (refusal c.before.before.before.before.before.before.before.before.before.before.before.before.before.before.before.judge-instance.result.fault 4)) (refusal c.before.before.before.before.before.before.before.before.judge-instance2.result.fault 5)
+joined : (c : tie.After-struct-known) → c.before.or2.result ≡ or_next (or_next c.before.before.before.before.before.before.before.before.before.before.before.before.before.before.before.before.before.before.before.before.before.before.before.before.before.before.args.opened.refusal (refusal c.before.before.before.before.before.before.before.before.before.before.before.before.before.before.before.judge-instance.result.fault 4)) (refusal c.before.before.before.before.before.before.before.before.judge-instance2.result.fault 5)
 joined c = c.before.or2.ensures ∙ ap (λ (r : Refusal). or_next r (refusal c.before.before.before.before.before.before.before.before.judge-instance2.result.fault 5)) c.before.before.or.ensures
 
 judge-instance-requires : tie.Need-judge-instance-requires
@@ -29,9 +28,9 @@ uneven-requires : tie.Need-uneven-requires
 uneven-requires c κs =
     let i = c.before.before.before.before.before.before.before.before.before.before.before.before.before.before.before.before.judge-instance in
     let j = c.before.before.before.before.before.before.before.before.before.judge-instance2 in
-    let a = c.before.before.before.before.before.before.before.before.before.before.before.before.before.before.before.before.before.before.before.before.before.before.before.before.before.before.before.before.args in
-    let O = c.before.before.before.before.before.before.before.before.before.before.before.before.before.before.before.before.before.before.before.before.before.before.before.before.before.before.before.before.requires.0 in
-    sides-ready (kinds_of a.kinds.now) a.opened O i.result j.result i.new.1.1.1.0 i.new.1.1.1.1.0 j.new.1.1.1.0 j.new.1.1.1.1.0 a.i.now a.j.now i.ensures j.ensures (joined c.before) c.if1.true
+    let a = c.before.before.before.before.before.before.before.before.before.before.before.before.before.before.before.before.before.before.before.before.before.before.before.before.before.before.before.args in
+    let O = c.before.before.before.before.before.before.before.before.before.before.before.before.before.before.before.before.before.before.before.before.before.before.before.before.before.before.before.requires.0 in
+    sides-ready a.opened O i.result j.result i.new.1.1.0 i.new.1.1.1.0 j.new.1.1.0 j.new.1.1.1.0 a.i.now a.j.now i.ensures j.ensures (joined c.before) c.if1.true
 
 same_length : tie.Need-same-length
 same_length c = search rules
@@ -49,9 +48,9 @@ returns : tie.Need-returns
 returns c =
     let i = c.before.before.before.before.before.before.before.before.before.before.before.before.before.before.before.before.before.judge-instance in
     let j = c.before.before.before.before.before.before.before.before.before.before.judge-instance2 in
-    let a = c.before.before.before.before.before.before.before.before.before.before.before.before.before.before.before.before.before.before.before.before.before.before.before.before.before.before.before.before.before.args in
-    let O = c.before.before.before.before.before.before.before.before.before.before.before.before.before.before.before.before.before.before.before.before.before.before.before.before.before.before.before.before.before.requires.0 in
-    sides-open (kinds_of a.kinds.now) a.opened O i.result j.result i.new.1.1.1.0 i.new.1.1.1.1.0 j.new.1.1.1.0 j.new.1.1.1.1.0 a.i.now a.j.now i.ensures j.ensures (joined c.before.before) c.before.if1.true c.uneven.ensures
+    let a = c.before.before.before.before.before.before.before.before.before.before.before.before.before.before.before.before.before.before.before.before.before.before.before.before.before.before.before.before.args in
+    let O = c.before.before.before.before.before.before.before.before.before.before.before.before.before.before.before.before.before.before.before.before.before.before.before.before.before.before.before.before.requires.0 in
+    sides-open a.opened O i.result j.result i.new.1.1.0 i.new.1.1.1.0 j.new.1.1.0 j.new.1.1.1.0 a.i.now a.j.now i.ensures j.ensures (joined c.before.before) c.before.if1.true c.uneven.ensures
 
 same-length-5 : tie.Need-same-length-5
 same-length-5 c = search rules
@@ -69,9 +68,9 @@ returns-2 : tie.Need-returns-2
 returns-2 c =
     let i = c.before.before.before.before.before.before.before.before.before.before.before.before.before.before.before.before.judge-instance in
     let j = c.before.before.before.before.before.before.before.before.before.judge-instance2 in
-    let a = c.before.before.before.before.before.before.before.before.before.before.before.before.before.before.before.before.before.before.before.before.before.before.before.before.before.before.before.before.args in
-    let O = c.before.before.before.before.before.before.before.before.before.before.before.before.before.before.before.before.before.before.before.before.before.before.before.before.before.before.before.before.requires.0 in
-    sides-stopped (kinds_of a.kinds.now) a.opened O i.result j.result i.new.1.1.1.0 i.new.1.1.1.1.0 j.new.1.1.1.0 j.new.1.1.1.1.0 a.i.now a.j.now i.ensures j.ensures (joined c.before) c.if1.false
+    let a = c.before.before.before.before.before.before.before.before.before.before.before.before.before.before.before.before.before.before.before.before.before.before.before.before.before.before.before.args in
+    let O = c.before.before.before.before.before.before.before.before.before.before.before.before.before.before.before.before.before.before.before.before.before.before.before.before.before.before.before.requires.0 in
+    sides-stopped a.opened O i.result j.result i.new.1.1.0 i.new.1.1.1.0 j.new.1.1.0 j.new.1.1.1.0 a.i.now a.j.now i.ensures j.ensures (joined c.before) c.if1.false
 
 pub open-sides-spec : {M : Type 1} → statement M
 open-sides-spec =

@@ -1,26 +1,39 @@
 -- `migration::turnings::pushed_to_raw` meets its contract.
 use mathlib.Core.Path.{ap, ◌∙◌}
-use Rattle.meaning.specs.Formats.{Kinds}
-use Rattle.meaning.specs.SchemaKinds.{listed}
-use Rattle.meaning.specs.Calls.{pushed_to_raw, in_tray}
+use Rattle.meaning.specs.Formats.{matching_sheet}
+use Rattle.meaning.specs.Calls.{in_tray}
+use Rattle.migration.specs.declared.matchings.Side.TheVariants as side
+use Rattle.migration.specs.Turnable.{turnable_of, turned_list}
+use Rattle.steps.proofs.Refusing.{yields}
+use Rattle.migration.proofs.Grouping.{pushed_turned}
 use borrow.Author.Rules.{rules}
 use Rattle.migration.proofs.turnings.pushed_to_raw.Statement.{statement}
 use Rattle.migration.proofs.turnings.pushed_to_raw.Tie as tie
 
-kinds-requires : tie.Need-kinds-requires
-kinds-requires c κs = search rules
+slice-aggregate-match-side : tie.Need-slice-aggregate-match-side
+slice-aggregate-match-side c = search rules
 
-turn-side-requires : tie.Need-turn-side-requires
-turn-side-requires c κs = search rules
+match-side-requires : tie.Need-match-side-requires
+match-side-requires c κs = search rules
+
+write-turned-requires : tie.Need-write-turned-requires
+write-turned-requires c κs = search rules
 
 same_length : tie.Need-same-length
 same_length c = search rules
 
 returns : tie.Need-returns
 returns c =
-    let a = c.before.before.before.before.before.before.before.before.before.before.before.before.args in
-    c.before.before.turn-side.ensures ∙ ap (λ (ks : Kinds). in_tray a.tray.now (pushed_to_raw listed ks a.s.now a.t.now a.f.now a.run.now a.book.now a.list.now)) c.before.before.before.before.kinds.ensures
+    let a = c.before.before.before.before.before.before.before.before.before.before.before.before.before.before.args in
+    let m = c.before.before.before.before.before.match-side in
+    c.before.before.write-turned.ensures ∙ ap (in_tray a.tray.now) (yields m.result.refusal (turnable_of m.result m.last.1.1.1.1.1.1.1.0) m.ensures.says (λ z. matching_sheet (turned_list side.Pushed z)) ∙ pushed_turned a.s.now a.t.now a.f.now a.run.now a.book.now a.list.now)
 
 pub pushed-to-raw-spec : {M : Type 1} → statement M
 pushed-to-raw-spec =
-    tie.close (tie.spec kinds-requires turn-side-requires same_length returns)
+    tie.close
+    (tie.spec
+    slice-aggregate-match-side
+    match-side-requires
+    write-turned-requires
+    same_length
+    returns)

@@ -17,7 +17,7 @@ print-requires c κs =
     let F = z.0 in
     let i = c.before.before.before.before.before.before.before.before.before.before.before.before.before.before.before.before.before.before.before.before.before.before.before.before.before.before.args.i.now in
     let told = query-told F.s1 F.s2 F.s3 F.s4 F.f F.g F.h i F.opens in
-    (printable c.before.before.before.before.before.before.before.before.before.before.before.before.before.query-tables.ensures (λ N e. let a = query_agrees F.s1 F.s2 F.s3 F.s4 F.f F.g F.h i (sym told ∙ e) in (a.q.S4.schema, a.lendable)), z.2)
+    (printable c.before.before.before.before.before.before.before.before.before.before.before.before.before.query-tables.ensures (λ N e. let a = query_agrees F.s1 F.s2 F.s3 F.s4 F.f F.g F.h i (sym told ∙ e) in (a.q.S4, a.lendable)), z.2)
 
 same_length : tie.Need-same-length
 same_length c = search rules

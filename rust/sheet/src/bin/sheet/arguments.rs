@@ -21,8 +21,6 @@ pub struct Arguments {
     pub unchecked: bool,
     /// `--tray BYTES`: the bytes of the tray lent to the call.
     pub tray: Option<usize>,
-    /// `--kinds FILE`: the operator's list of kinds, in place of the built-in one.
-    pub kinds: Option<String>,
     /// `--help`
     pub help: bool,
     /// The options that were given, by their long names.
@@ -51,42 +49,24 @@ impl Arguments {
                 "--force" => arguments.flag("--force", attached)?,
                 "--hex" => arguments.flag("--hex", attached)?,
                 "--unchecked" => arguments.flag("--unchecked", attached)?,
+                "-o" | "--output" => {
+                    arguments.output = Some(value(name, PLACE, attached, &mut rest)?);
+                    arguments.given.push("--output");
+                }
+                "--pushed" => {
+                    arguments.pushed = Some(value(name, PLACE, attached, &mut rest)?);
+                    arguments.given.push("--pushed");
+                }
+                "--tray" => {
+                    let bytes = value(name, BYTES, attached, &mut rest)?;
+                    arguments.tray = Some(number_of_bytes(&bytes)?);
+                    arguments.given.push("--tray");
+                }
                 "--version" => arguments.words.insert(0, "version".to_string()),
-                _ => arguments.valued(name, attached, &mut rest)?,
+                _ => return Err(Failure::usage("", format!("no option is named `{word}`"))),
             }
         }
         Ok(arguments)
-    }
-
-    /// Takes an option with a value, attached by `=` or the next word.
-    fn valued(
-        &mut self,
-        name: &str,
-        attached: Option<String>,
-        rest: &mut std::vec::IntoIter<OsString>,
-    ) -> Result<(), Failure> {
-        let mut value = |expected| value(name, expected, attached.clone(), rest);
-        let given = match name {
-            "-o" | "--output" => {
-                self.output = Some(value(PLACE)?);
-                "--output"
-            }
-            "--pushed" => {
-                self.pushed = Some(value(PLACE)?);
-                "--pushed"
-            }
-            "--kinds" => {
-                self.kinds = Some(value(FILE)?);
-                "--kinds"
-            }
-            "--tray" => {
-                self.tray = Some(number_of_bytes(&value(BYTES)?)?);
-                "--tray"
-            }
-            _ => return Err(Failure::usage("", format!("no option is named `{name}`"))),
-        };
-        self.given.push(given);
-        Ok(())
     }
 
     fn flag(&mut self, name: &'static str, attached: Option<String>) -> Result<(), Failure> {
@@ -118,7 +98,6 @@ fn text(word: OsString) -> Result<String, Failure> {
 
 /// What the options with a value expect.
 const PLACE: &str = "a file or folder";
-const FILE: &str = "a file";
 const BYTES: &str = "a number of bytes";
 
 fn number_of_bytes(value: &str) -> Result<usize, Failure> {

@@ -31,8 +31,7 @@ pub fn judged(
 ) -> Result<Question, Failure> {
     let mut question = Question::new(call);
     question.tray = arguments.tray;
-    let lent = roles_of(command, call, words, arguments.kinds.as_deref())?;
-    for (place, (role, word)) in lent.into_iter().enumerate() {
+    for (place, (role, word)) in roles_of(command, call, words)?.into_iter().enumerate() {
         lend(&mut question, role, word, inputs)?;
         if let Some(error) = question.misread_list() {
             return Err(Failure::Text(vec![error]));
@@ -56,7 +55,7 @@ pub fn load(
     inputs: &mut Inputs,
 ) -> Result<Question, Failure> {
     let mut question = Question::new(call);
-    for (role, word) in roles_of(command, call, words, None)? {
+    for (role, word) in roles_of(command, call, words)? {
         lend(&mut question, role, word, inputs)?;
     }
     Ok(question)
@@ -71,13 +70,11 @@ fn refused(question: &Question, refusal: migration::Refusal) -> Failure {
     Failure::Refused(Box::new(question.explain(refusal)))
 }
 
-/// Each word with its role, in the order of the places; the operator's kinds, if any,
-/// stand before the other sheets.
+/// Each word with its role.
 fn roles_of<'a>(
     command: &'static str,
     call: Call,
     words: &'a [String],
-    kinds: Option<&'a str>,
 ) -> Result<Vec<(Role, &'a str)>, Failure> {
     let roles = call.roles();
     if words.len() != roles.len() {
@@ -85,9 +82,8 @@ fn roles_of<'a>(
         let what = format!("expected {}; {} given", expected.join(" "), words.len());
         return Err(Failure::usage(command, what));
     }
-    let words = roles.iter().copied().zip(words.iter().map(String::as_str));
-    let kinds = kinds.map(|word| (Role::Kinds, word));
-    let lent: Vec<(Role, &str)> = kinds.into_iter().chain(words).collect();
+    let lent: Vec<(Role, &str)> =
+        roles.iter().copied().zip(words.iter().map(String::as_str)).collect();
     if lent.iter().filter(|(role, word)| is_standard_input(*role, word)).count() > 1 {
         return Err(Failure::usage(command, "standard input can be lent only once"));
     }
@@ -110,15 +106,11 @@ fn lend(
             question.mapping = Some(mapping(question, [Role::S, Role::T], word, inputs)?);
         }
         Role::G => question.g = Some(mapping(question, [Role::T, Role::U], word, inputs)?),
-        Role::Kinds => question.kinds = Some(inputs.kinds(word)?),
         Role::Run => {
             let over = schema(question, question.call.run_schema())?;
-            question.run = Some(inputs.instance(word, over, &question.applied_kinds())?);
+            question.run = Some(inputs.instance(word, over)?);
         }
-        Role::Book => {
-            let over = schema(question, Role::T)?;
-            question.book = Some(inputs.instance(word, over, &question.applied_kinds())?);
-        }
+        Role::Book => question.book = Some(inputs.instance(word, schema(question, Role::T)?)?),
         Role::P => question.p = Some(inputs.path(word, schema(question, Role::S)?)?),
         Role::Q => question.q = Some(inputs.path(word, schema(question, Role::S)?)?),
         Role::List => {
@@ -168,7 +160,6 @@ fn word_for(call: Call, role: Role) -> &'static str {
         (Call::Compose, Role::Mapping) => "F",
         (_, Role::G) => "G",
         (_, Role::Mapping) => "MAPPING",
-        (_, Role::Kinds) => "KINDS",
         (_, Role::Run) => "RUN",
         (_, Role::Book) => "BOOK",
         (_, Role::P | Role::Q) => "PATH",

@@ -45,11 +45,10 @@ fn text(command: &str) -> Option<&'static str> {
 pub const OVERVIEW: &str = "\
 sheet: inspection run records from text and CSV to the proved calls and back
 
-  sheet pack schema|mapping|instance|matching|path|row|kinds ..
+  sheet pack schema|mapping|instance|matching|path|row ..
                                                        text to a sheet
-  sheet show schema|mapping|instance|matching|path|kinds ..
-                                                       a sheet to text or tables
-  sheet check schema|mapping|instance|kinds ..         ask the proved check
+  sheet show schema|mapping|instance|matching|path ..  a sheet to text or tables
+  sheet check schema|mapping|instance ..               ask the proved check
   sheet delta S T MAPPING BOOK                         pull a book back to S
   sheet sigma S T MAPPING RUN                          push a run, tables joined
   sheet pi S T MAPPING RUN                             push a run, rows fitted
@@ -66,14 +65,10 @@ sheet: inspection run records from text and CSV to the proved calls and back
   sheet draw schema|mapping ..                         Graphviz text
   sheet help COMMAND                                   more on a command
 
-What is read: a schema, a mapping or a list of kinds is a text file, an instance
-(RUN, BOOK) a folder with one CSV file for each table, a LIST a CSV file, a PATH
-a text like Dent.joint. Each may be a sheet instead: a file ending in .sheet,
-sheet:FILE, or - for a sheet on standard input. text:FILE is text whatever its
-name.
-
-Values are held against the built-in ranges of their kinds. delta, sigma, pi,
-match and turn hold them against the operator's own by --kinds FILE.
+What is read: a schema or mapping is a text file, an instance (RUN, BOOK) a
+folder with one CSV file for each table, a LIST a CSV file, a PATH a text like
+Dent.joint. Each may be a sheet instead: a file ending in .sheet, sheet:FILE, or
+- for a sheet on standard input. text:FILE is text whatever its name.
 
 What is written: -o PATH writes a sheet where PATH ends in .sheet or begins with
 sheet:, else text; without it the result goes to standard output. Existing files
@@ -92,16 +87,11 @@ sheet pack instance SCHEMA INSTANCE
 sheet pack matching SCHEMA LIST
 sheet pack path SCHEMA PATH
 sheet pack row SCHEMA TABLE NAME=VALUE ..
-sheet pack kinds KINDS
 
 Writes text as a sheet. The proved check is asked first, and nothing is written
 if it refuses. Of a matching and of a row only the schema is checked: which list
 is a matching is a question for `sheet match`, and which row fits a run one for
 `sheet add-row`.
-
-KINDS is an operator's own ranges, one kind a line: its name, its smallest and
-its largest value, as in `depth 0 800`. # begins a comment. A kind without a
-line keeps its built-in range; `sheet show kinds` writes all, with their units.
 
   -o FILE       write the sheet to FILE instead of standard output
   --force       replace FILE if it exists
@@ -117,14 +107,12 @@ sheet show mapping S T MAPPING
 sheet show instance SCHEMA INSTANCE
 sheet show matching SCHEMA INSTANCE LIST
 sheet show path SCHEMA PATH
-sheet show kinds KINDS
 
 Writes a sheet as text: a schema, mapping, matching or path in its text form, an
 instance as aligned tables, or with -o as a folder of CSV files. The sheet is
 one that the proved check accepts. A schema sheet has no names; node0, link0,
 column0 and so on are used. The INSTANCE of a matching is the one whose rows it
 gives partners to: Sigma's result on the pushed side, the run on the raw side.
-Of kinds all 16 are written, with their units as comments.
 
   -o PATH       write to a file, or to a folder for an instance
   --force       replace PATH if it exists
@@ -136,12 +124,9 @@ const CHECK: &str = "\
 sheet check schema SCHEMA
 sheet check mapping S T MAPPING
 sheet check instance SCHEMA INSTANCE
-sheet check kinds KINDS
 
 Asks the proved check. For an accepted mapping it also tells whether sigma (with
-match and turn) and pi take it, and if not, why. For accepted kinds it tells
-which have other ranges than the built-in ones. An instance is held against the
-built-in ranges.
+match and turn) and pi take it, and if not, why.
 
 Example: sheet check mapping vendor.schema operator.schema vendor-to-operator.mapping
 ";
@@ -155,8 +140,6 @@ table at its image, a link follows its image path, a column copies its image.
   -o PATH       write a folder of CSV files, or a sheet if PATH ends in .sheet
   --force       replace PATH if it exists
   --tray BYTES  lend the call a tray of BYTES (refusal 16 if it is too small)
-  --kinds FILE  hold values against the operator's ranges in FILE, not the
-                built-in ones (`sheet help pack` says how FILE is written)
 
 Example: sheet delta vendor.schema operator.schema vendor-to-operator.mapping book
 ";
@@ -170,8 +153,6 @@ the joined list of the tables that go there, in the order of S.
   -o PATH       write a folder of CSV files, or a sheet if PATH ends in .sheet
   --force       replace PATH if it exists
   --tray BYTES  lend the call a tray of BYTES (refusal 16 if it is too small)
-  --kinds FILE  hold values against the operator's ranges in FILE, not the
-                built-in ones (`sheet help pack` says how FILE is written)
 
 Example: sheet sigma vendor.schema operator.schema vendor-to-operator.mapping run -o pushed
 ";
@@ -185,8 +166,6 @@ for each way from there to a table of S, such that the links agree.
   -o PATH       write a folder of CSV files, or a sheet if PATH ends in .sheet
   --force       replace PATH if it exists
   --tray BYTES  lend the call a tray of BYTES (refusal 16 if it is too small)
-  --kinds FILE  hold values against the operator's ranges in FILE, not the
-                built-in ones (`sheet help pack` says how FILE is written)
 
 Example: sheet pi parts.schema pairs.schema parts-to-pairs.mapping run
 ";
@@ -283,9 +262,6 @@ Checks a list of partners along an even mapping. On the pushed side it leads
 from Sigma of the run to the book, its tables being those of T; on the raw side
 from the run to Delta of the book, its tables being those of S.
 
-  --kinds FILE  hold values against the operator's ranges in FILE, not the
-                built-in ones (`sheet help pack` says how FILE is written)
-
 Example: sheet match raw vendor.schema operator.schema vendor-to-operator.mapping run book raw.csv
 ";
 
@@ -299,8 +275,6 @@ the run meets the same row of the book. Turning back gives the first list again.
   -o FILE       write FILE, ending in .csv or .sheet, instead of standard output
   --force       replace FILE if it exists
   --tray BYTES  lend the call a tray of BYTES (refusal 16 if it is too small)
-  --kinds FILE  hold values against the operator's ranges in FILE, not the
-                built-in ones (`sheet help pack` says how FILE is written)
 
 Example: sheet turn pushed-to-raw vendor.schema operator.schema \\
              vendor-to-operator.mapping run book pushed.csv -o raw.csv

@@ -1,7 +1,7 @@
 //! Reading what is lent: texts, folders and sheets.
 
 use crate::failure::Failure;
-use sheet::{Kinds, Lent, LentSchema, Role, Schema, TextError};
+use sheet::{Lent, LentSchema, Role, Schema, TextError};
 use std::io::Read;
 use std::path::Path;
 
@@ -63,29 +63,15 @@ impl Inputs {
         }
     }
 
-    /// A list of kinds from text or sheet.
-    pub fn kinds(&mut self, word: &str) -> Result<Lent, Failure> {
-        match Form::of(word) {
-            Form::Sheet(file) => self.sheet(file),
-            Form::Text(file) => Ok(Lent::kinds(shown(file), &self.text(file)?)?),
-        }
-    }
-
-    /// An instance from a folder or a sheet, whose values will be held against a list of
-    /// kinds.
-    pub fn instance(
-        &mut self,
-        word: &str,
-        schema: &Schema,
-        kinds: &Kinds,
-    ) -> Result<Lent, Failure> {
+    /// An instance from a folder or a sheet.
+    pub fn instance(&mut self, word: &str, schema: &Schema) -> Result<Lent, Failure> {
         match Form::of(word) {
             Form::Sheet(file) => self.sheet(file),
             Form::Text(folder) if Path::new(folder).is_file() => Err(Failure::Trouble(format!(
                 "{folder} is a file; expected a folder with a CSV file for each table, \
                  or a sheet named .sheet or written as sheet:{folder}"
             ))),
-            Form::Text(folder) => Ok(Lent::instance(Path::new(folder), schema, kinds)?),
+            Form::Text(folder) => Ok(Lent::instance(Path::new(folder), schema)?),
         }
     }
 

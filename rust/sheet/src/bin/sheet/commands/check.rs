@@ -5,12 +5,11 @@ use crate::arguments::Arguments;
 use crate::ask::{ask, decoded, schema};
 use crate::failure::Failure;
 use crate::output;
-use sheet::kinds::{range_text, KINDS};
-use sheet::{all_paths, Call, Instance, Kinds, Lent, Question, Role};
+use sheet::{all_paths, Call, Instance, Lent, Question, Role};
 
 /// Asks the proved check, and tells what was accepted.
 pub fn run(arguments: &Arguments, words: &[String]) -> Result<(), Failure> {
-    match sort("check", &["schema", "mapping", "instance", "kinds"], words)? {
+    match sort("check", &["schema", "mapping", "instance"], words)? {
         ("schema", rest) => {
             let (question, _) = ask("check", Call::CheckSchema, rest, arguments)?;
             let schema = schema(&question, Role::S)?;
@@ -28,7 +27,7 @@ pub fn run(arguments: &Arguments, words: &[String]) -> Result<(), Failure> {
             let taken = takers(&question)?;
             output::print(&format!("accepted\n{taken}"))
         }
-        ("instance", rest) => {
+        (_, rest) => {
             let (question, _) = ask("check", Call::CheckInstance, rest, arguments)?;
             let schema = schema(&question, Role::S)?;
             let instance = Instance::from_sheet(schema, question.sheet(Role::Run));
@@ -36,28 +35,7 @@ pub fn run(arguments: &Arguments, words: &[String]) -> Result<(), Failure> {
             let (rows, counts) = (instance.total_rows(), instance.counts_text(schema));
             output::print(&format!("accepted: rows {rows} ({counts})\n"))
         }
-        (_, rest) => {
-            let (question, _) = ask("check", Call::CheckKinds, rest, arguments)?;
-            let kinds = Kinds::from_sheet(question.sheet(Role::Kinds));
-            output::print(&differences(&decoded("the kinds", kinds)?))
-        }
     }
-}
-
-/// Which kinds of an accepted list have other ranges than in the built-in one.
-fn differences(kinds: &Kinds) -> String {
-    let changed = kinds.changed();
-    let mut text = match changed.len() {
-        0 => "accepted: no kind differs from the built-in list\n".to_string(),
-        1 => "accepted: 1 kind differs from the built-in list\n".to_string(),
-        count => format!("accepted: {count} kinds differ from the built-in list\n"),
-    };
-    for number in changed {
-        let (kind, range) = (&KINDS[number], range_text(&kinds.range(number)));
-        let built_in = range_text(&kind.range());
-        text.push_str(&format!("  {} {range}, built-in {built_in}\n", kind.name));
-    }
-    text
 }
 
 /// Whether Sigma and Pi take a mapping: they are asked with a run without rows.

@@ -29,8 +29,6 @@ pub struct Command {
 
 const FILES: &[&str] = &["--output", "--force"];
 const TRAYS: &[&str] = &["--output", "--force", "--tray"];
-/// Of the commands whose calls have a second form, with the operator's kinds.
-const TRAYS_KINDS: &[&str] = &["--output", "--force", "--tray", "--kinds"];
 
 const CHANGES: &[&str] = &["--output", "--force", "--tray", "--pushed"];
 
@@ -42,15 +40,15 @@ const COMMANDS: [Command; 17] = [
     },
     Command { name: "show", options: FILES, run: show::run },
     Command { name: "check", options: &[], run: check::run },
-    Command { name: "delta", options: TRAYS_KINDS, run: migrate::delta },
-    Command { name: "sigma", options: TRAYS_KINDS, run: migrate::sigma },
-    Command { name: "pi", options: TRAYS_KINDS, run: migrate::pi },
+    Command { name: "delta", options: TRAYS, run: migrate::delta },
+    Command { name: "sigma", options: TRAYS, run: migrate::sigma },
+    Command { name: "pi", options: TRAYS, run: migrate::pi },
     Command { name: "query", options: TRAYS, run: migrate::query },
     Command { name: "compose", options: TRAYS, run: compose::run },
     Command { name: "add-row", options: CHANGES, run: rows::add },
     Command { name: "withdraw-row", options: CHANGES, run: rows::withdraw },
-    Command { name: "match", options: &["--kinds"], run: matching::check },
-    Command { name: "turn", options: TRAYS_KINDS, run: matching::turn },
+    Command { name: "match", options: &[], run: matching::check },
+    Command { name: "turn", options: TRAYS, run: matching::turn },
     Command { name: "first-path", options: TRAYS, run: first_path::run },
     Command { name: "same-path", options: &[], run: same_path::run },
     Command { name: "why", options: &[], run: why::run },

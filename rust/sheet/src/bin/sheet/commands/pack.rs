@@ -9,7 +9,7 @@ use crate::output;
 use sheet::{Call, Lent, Question, Role};
 use std::path::Path;
 
-const SORTS: [&str; 7] = ["schema", "mapping", "instance", "matching", "path", "row", "kinds"];
+const SORTS: [&str; 6] = ["schema", "mapping", "instance", "matching", "path", "row"];
 
 /// Text to a sheet, which the proved check accepts unless it is not asked.
 pub fn run(arguments: &Arguments, words: &[String]) -> Result<(), Failure> {
@@ -19,8 +19,7 @@ pub fn run(arguments: &Arguments, words: &[String]) -> Result<(), Failure> {
         ("instance", rest) => pack(arguments, Call::CheckInstance, Role::Run, rest)?,
         ("matching", rest) => pack_matching(arguments, rest)?,
         ("path", rest) => pack(arguments, Call::FirstPath, Role::P, rest)?,
-        ("row", rest) => pack_row(arguments, rest)?,
-        (_, rest) => pack(arguments, Call::CheckKinds, Role::Kinds, rest)?,
+        (_, rest) => pack_row(arguments, rest)?,
     };
     let bytes = match arguments.hex {
         true => hexadecimal(&sheet).into_bytes(),

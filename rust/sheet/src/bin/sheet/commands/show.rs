@@ -6,9 +6,9 @@ use crate::ask::{answer, ask, decoded, load, schema};
 use crate::failure::Failure;
 use crate::input::Inputs;
 use crate::output::{self, Target};
-use sheet::{Call, Instance, Kinds, Mapping, Matching, Role, TextError};
+use sheet::{Call, Instance, Mapping, Matching, Role, TextError};
 
-const SORTS: [&str; 6] = ["schema", "mapping", "instance", "matching", "path", "kinds"];
+const SORTS: [&str; 5] = ["schema", "mapping", "instance", "matching", "path"];
 
 /// A sheet to text; the sheet is one that the proved check accepts.
 pub fn run(arguments: &Arguments, words: &[String]) -> Result<(), Failure> {
@@ -32,14 +32,9 @@ pub fn run(arguments: &Arguments, words: &[String]) -> Result<(), Failure> {
             migrate::write("show", arguments, over, question.sheet(Role::Run))
         }
         ("matching", rest) => show_matching(arguments, rest),
-        ("path", rest) => {
+        (_, rest) => {
             let (question, _) = ask("show", Call::FirstPath, rest, arguments)?;
             first_path::write(arguments, schema(&question, Role::S)?, question.sheet(Role::P))
-        }
-        (_, rest) => {
-            let (question, _) = ask("show", Call::CheckKinds, rest, arguments)?;
-            let kinds = Kinds::from_sheet(question.sheet(Role::Kinds));
-            write_text(arguments, &decoded("the kinds", kinds)?.to_text())
         }
     }
 }

@@ -1,9 +1,5 @@
-//! The kinds of values, by document 01's names, and lists of their ranges: the built-in
-//! one, in which the clock runs as request C-12 of document 02 has it, and those that
-//! operators have.
-
-mod sheet;
-mod text;
+//! The kinds of values, by document 01's names; the clock runs as request C-12 of
+//! document 02 has it.
 
 use std::ops::RangeInclusive;
 
@@ -14,9 +10,9 @@ pub struct Kind {
     pub name: &'static str,
     /// What the number counts.
     pub unit: &'static str,
-    /// The smallest value in the built-in list.
+    /// The smallest value.
     pub smallest: u32,
-    /// The largest value in the built-in list.
+    /// The largest value.
     pub largest: u32,
     /// A value off scale that was on scale before.
     pub former: Option<Former>,
@@ -34,7 +30,7 @@ pub struct Former {
 }
 
 impl Kind {
-    /// The values of the kind in the built-in list.
+    /// The values of the kind.
     ///
     /// ```
     /// assert_eq!(sheet::kinds::KINDS[2].range(), 1..=720);
@@ -70,48 +66,6 @@ pub const KINDS: [Kind; 16] = [
     kind("flag", "", 0, 1),
     kind("unused", "", 0, 0),
 ];
-
-/// The kind that has 0 alone in every list.
-pub(crate) const UNUSED: usize = 15;
-
-/// A list of ranges, one for each kind, whether or not a call would accept it.
-#[derive(Debug, Clone, PartialEq, Eq)]
-pub struct Kinds {
-    /// From the smallest to the largest value of each kind, by the kinds' numbers.
-    pub ranges: [RangeInclusive<u32>; KINDS.len()],
-}
-
-impl Kinds {
-    /// The built-in list.
-    pub fn built_in() -> Self {
-        Kinds { ranges: KINDS.map(|kind| kind.range()) }
-    }
-
-    /// The range of a kind by its number; every value for a number beyond the list.
-    pub fn range(&self, kind: usize) -> RangeInclusive<u32> {
-        self.ranges.get(kind).cloned().unwrap_or(0..=u32::MAX)
-    }
-
-    /// The numbers of the kinds whose range is not the built-in one.
-    ///
-    /// ```
-    /// let (kinds, _) = sheet::Kinds::parse("a.kinds", "wall 0 5000\ndepth 0 800\n").unwrap();
-    /// assert_eq!(kinds.changed(), [3]);
-    /// ```
-    pub fn changed(&self) -> Vec<usize> {
-        let kinds = KINDS.iter().zip(&self.ranges).enumerate();
-        kinds.filter(|(_, (kind, range))| kind.range() != **range).map(|(kind, _)| kind).collect()
-    }
-}
-
-/// A range in words: `0 to 800`.
-///
-/// ```
-/// assert_eq!(sheet::kinds::range_text(&sheet::kinds::KINDS[2].range()), "1 to 720");
-/// ```
-pub fn range_text(range: &RangeInclusive<u32>) -> String {
-    format!("{} to {}", range.start(), range.end())
-}
 
 /// The number of the kind with this name.  Document 01 writes kind 11 as
 /// `second of day`; both forms are read.

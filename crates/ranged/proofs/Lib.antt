@@ -1,2 +1,0 @@
--- Laws of the second form of a call.
-pub mod Forms
