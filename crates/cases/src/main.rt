@@ -1,5 +1,7 @@
 // The program cases: reads calls with their sheets and tray lengths, makes each call, and prints its answer and a checksum of each tray.
 // docs/TESTS.md has the form of a record and of a line.
+#![tactic(auto)]
+
 mod calls;
 
 ghost use Rattle.std.specs.Prelude.{◌+◌, ◌≤◌, ◌<◌, length};

@@ -1,5 +1,7 @@
 // The chain of steps between two paths: how many steps each path is from the second one, found by levels; then, from the first one on, the least step
 // that comes one nearer.
+#![tactic(auto)]
+
 pub mod levels;
 pub mod nearer;
 pub mod places;

@@ -1,4 +1,6 @@
 // Changes of a run: a row added or withdrawn, and Sigma of the run as it then is, of lent sheets into two lent trays.
+#![tactic(auto)]
+
 mod calls;
 pub mod exports;
 mod results;

@@ -1,4 +1,6 @@
 // Delta on decoded tables: the table at a node is the one at its image, an edge follows its image path, an attribute copies its image's column.
+#![tactic(auto)]
+
 pub mod columns;
 
 ghost use Rattle.std.specs.Prelude.{◌≡◌, true, [], ◌*◌, ◌≤◌, length};

@@ -1,5 +1,7 @@
 // The program dig: reads four schemas, the mappings F, G and H and a run, each after its 16-bit byte length, and no byte after them, and prints the
 // tables of the query or the refusal.
+#![tactic(auto)]
+
 use text::Text;
 use text::framing::Part;
 

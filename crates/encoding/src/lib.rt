@@ -1,4 +1,6 @@
 // How an instance is written into a lent tray, field after field; and matching, path and chain sheets.
+#![tactic(auto)]
+
 pub mod chains;
 pub mod matching;
 pub mod paths;

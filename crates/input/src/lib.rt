@@ -1,4 +1,6 @@
 // Reading sheets from a descriptor, each after its byte length, and no byte after the last of them.
+#![tactic(auto)]
+
 ghost use Rattle.std.specs.Prelude.{◌+◌, ◌*◌, ◌≤◌, length};
 ghost use Rattle.text.specs.Framed.{max_frame_bytes};
 ghost use Rattle.input.specs.Read.{FrameRead, SheetsRead};

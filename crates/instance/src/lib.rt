@@ -1,4 +1,6 @@
 // Instances: the judge of an instance sheet, and what stands in its working arrays.
+#![tactic(auto)]
+
 pub mod copy;
 pub mod decode;
 pub mod follow;

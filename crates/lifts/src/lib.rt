@@ -1,5 +1,7 @@
 // What Sigma asks of a mapping, evenness, and what it takes of it: the lift of an edge, the attribute over an attribute, and where a node's rows
 // stand in the joined list.
+#![tactic(auto)]
+
 pub mod even;
 
 ghost use Rattle.std.specs.Prelude.{◌≡◌, ◌+◌, ◌*◌, ◌≤◌, ◌<◌, get_or, length};

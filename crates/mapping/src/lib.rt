@@ -1,4 +1,6 @@
 // Mappings: the judge of a mapping sheet, images of paths, and the edges of a path.
+#![tactic(auto)]
+
 pub mod attributes;
 pub mod decode;
 pub mod edges;

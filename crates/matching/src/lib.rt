@@ -1,4 +1,6 @@
 // Matchings: the test of a list of partners (refusal 17), and its two turnings along a mapping.
+#![tactic(auto)]
+
 pub mod rows;
 pub mod turning;
 

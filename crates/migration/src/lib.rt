@@ -1,5 +1,7 @@
 // Delta, Sigma, Pi and matchings on lent sheets. Every call takes sheets of any length and content, and answers with a result or with the
 // first refusal that applies.
+#![tactic(auto)]
+
 mod checks;
 mod explain;
 pub mod exports;

@@ -1,4 +1,6 @@
 // Paths of a schema: the table of all of them, with their classes.
+#![tactic(auto)]
+
 pub mod chains;
 pub mod classes;
 pub mod table;

@@ -1,1 +1,3 @@
 // Every promise of the library, gathered: specs/Promises.antt. No code.
+#![tactic(auto)]
+

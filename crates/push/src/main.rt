@@ -1,5 +1,7 @@
 // The program push: reads the sheets S, T, mapping and run, each after its 16-bit byte length, and no byte after them, and prints the pushed
 // tables or the refusal.
+#![tactic(auto)]
+
 use text::Text;
 use text::framing::Part;
 

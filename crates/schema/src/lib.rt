@@ -1,4 +1,6 @@
 // Schemas: the judges of a schema sheet and of a path sheet.
+#![tactic(auto)]
+
 pub mod count;
 pub mod decode;
 pub mod faults;

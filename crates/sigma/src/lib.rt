@@ -1,5 +1,7 @@
 // Sigma on decoded tables: the table at d is the joined list of the tables at all nodes over d, an edge follows its lift at each node, an
 // attribute copies the column over it at each node.
+#![tactic(auto)]
+
 pub mod columns;
 
 ghost use Rattle.std.specs.Prelude.{◌≡◌, ◌+◌, ◌*◌, ◌≤◌, length, get_or};

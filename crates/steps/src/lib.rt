@@ -1,5 +1,7 @@
 // What the calls are made of: opened sheets, the tests of all sheets together, tables in working arrays, and how a result is written or printed. A step asks
 // of its caller what the judges and the steps before it promise.
+#![tactic(auto)]
+
 pub mod open;
 pub mod printing;
 pub mod pushing;

@@ -1,4 +1,6 @@
 // The input and output of the programs push and dig: where sheets lie in what they read, and the text that they print.
+#![tactic(auto)]
+
 use instance::Instance;
 use schema::Schema;
 

@@ -1,4 +1,6 @@
 // Case 3 of document 01 through the public calls: each list is checked on its side, turned to the other side, and turned back.
+#![tactic(auto)]
+
 use migration::{Refusal, Verdict, Written};
 
 // The last hexadecimal digit of x.
