@@ -174,7 +174,7 @@ module _ {s t f i j : List ℕ} (x : Provided s t f i j) where
 
   pushed-numbers : Numbers (schema_of S) Run (pushed_side x)
   pushed-numbers = record {
-    position_in = λ c h y r. sum_mono x.pushed.count T.graph.nodes (F.node c) (place F Run c y) (F-is.Node-in c h) (sigma-place F-is x.pushed_is c y h r);
+    position_in = λ c h y r. sum_mono x.pushed.count T.graph.nodes (F.node c) (place F Run c y) (F-is.node_in c h) (sigma-place F-is x.pushed_is c y h r);
     below = λ l m. matching-below T pushed x.book l book-valid.few_rows ((pushed-matches l).1 m);
   }
 
@@ -197,9 +197,9 @@ module _ {s t f i j : List ℕ} (x : Provided s t f i j) where
     pushed_back = turns-back to-raw to-pushed raw-again;
     raw_back = turns-back to-pushed to-raw pushed-again;
     pushed_meets = meets-same to-raw pushed-numbers raw-numbers (λ l m c h y r.
-        transposed.to_raw_meets l c h y r ∙ ap (λ (n : ℕ). get_or l (n + place F Run c y) 0) (sym (first-same (F.node c) (F-is.Node-in c h))));
+        transposed.to_raw_meets l c h y r ∙ ap (λ (n : ℕ). get_or l (n + place F Run c y) 0) (sym (first-same (F.node c) (F-is.node_in c h))));
     raw_meets = meets-same to-pushed raw-numbers pushed-numbers (λ l m c h y r.
-        ap (λ (n : ℕ). get_or (turned_pushed l) (n + place F Run c y) 0) (first-same (F.node c) (F-is.Node-in c h)) ∙ transposed.to_pushed_meets l c h y r);
+        ap (λ (n : ℕ). get_or (turned_pushed l) (n + place F Run c y) 0) (first-same (F.node c) (F-is.node_in c h)) ∙ transposed.to_pushed_meets l c h y r);
   }
 
 -- ---- the provisos hold exactly when the tests before the matching sheet are passed

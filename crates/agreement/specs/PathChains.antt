@@ -2,7 +2,7 @@
 -- how many steps away a path is.
 use Rattle.std.specs.Prelude.{ℕ, ◌<◌, ◌≤◌, ◌≡◌, ◌↔◌, length}
 use mathlib.Core.List.{List, [], ◌∷◌, Memᴰ}
-use Rattle.std.proofs.Math.Option.{Option, none, some, Option·elim}
+use Rattle.std.proofs.Math.Option.{Option, none, some, Option-elim}
 use Rattle.theory.specs.Schema as theory
 use Rattle.theory.specs.Schema.{Chain, chain_length, Lex}
 use Rattle.theory.specs.Pi.{Sorted}
@@ -57,7 +57,7 @@ pub record StepsAgree (S : Schema) : Type 0 where
 -- the path to which steps, one after the other, lead from p, or none
 abbrev pub led_to : Schema → Path → List Step → Option Path
 led_to S p [] = some p
-led_to S p (t ∷ c) = Option·elim (stepped S p t) none (λ q. led_to S q c)
+led_to S p (t ∷ c) = Option-elim (stepped S p t) none (λ q. led_to S q c)
 
 -- the lists of chains have each list of k steps that leads from p to q, once, in the order of all their numbers
 pub record ChainsAgree (S : Schema) : Type 0 where

@@ -12,7 +12,7 @@ use schema::numbers::{index, wide};
 use schema::{Path, Schema};
 
 // The number of steps from each path; NO_PATH for one that is of no level yet.
-#[derive(Drop)]
+#[derive(Clone, Copy)]
 pub struct Distances {
     pub of: [u16; Schema::PATHS],
 }

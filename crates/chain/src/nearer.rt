@@ -12,7 +12,7 @@ use schema::numbers::{index, wide};
 use schema::{Path, Schema};
 
 // A step as one number, and the path that it makes; of a place, the number of edges before it. NO_PATH where there is none.
-#[derive(Drop)]
+#[derive(Clone, Copy)]
 pub struct Move {
     pub step: usize,
     pub path: usize,

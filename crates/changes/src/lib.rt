@@ -10,7 +10,7 @@ pub use calls::{add_row, withdraw_row};
 use steps::Refusal;
 
 // The answer of a change: the byte lengths of the run and of the pushed sheet.
-#[derive(Drop)]
+#[derive(Clone, Copy)]
 pub enum Changed {
     Lengths(usize, usize),
     Refused(Refusal),

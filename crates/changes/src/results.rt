@@ -13,7 +13,7 @@ use steps::Refusal;
 use steps::open::Opened;
 
 // A changed run and Sigma's tables of it, where the refusal is none. Links and values stand in working arrays.
-#[derive(Drop)]
+#[derive(Clone, Copy)]
 pub struct Change {
     pub refusal: Refusal,
     pub run: Instance,

@@ -17,7 +17,7 @@ use steps::open::Opened;
 use steps::pushing::open_run;
 
 // What a change does with a table: a row is added, whose sheet is lent, or the row of a number is withdrawn.
-#[derive(Drop)]
+#[derive(Clone, Copy)]
 pub enum Kind {
     Add,
     Withdraw(usize),

@@ -13,7 +13,7 @@ use steps::open::{open_mapping, open_schema};
 use steps::{Refusal, Written};
 
 // What the five sheets say, where the refusal's number is 0.
-#[derive(Drop)]
+#[derive(Clone, Copy)]
 struct Composable {
     refusal: Refusal,
     first: Schema,

@@ -8,7 +8,7 @@ ghost use Rattle.input.specs.Read.{FrameRead, SheetsRead};
 use text::framing::length_at;
 
 // Where a sheet that was read ends, and whether the input ended before it was whole.
-#[derive(Drop)]
+#[derive(Clone, Copy)]
 struct Frame {
     end: usize,
     ended: bool,

@@ -81,7 +81,7 @@ pub fn rows_of(home: &[u8], counts: &[u32], k: usize) -> usize
 }
 
 // Where columns end, or that the bits end before they do.
-#[derive(Drop)]
+#[derive(Clone, Copy)]
 pub struct ColumnsRead {
     pub cut: bool,
     pub next: usize,

@@ -4,7 +4,7 @@ ghost use Rattle.meaning.specs.Formats as formats;
 ghost use Rattle.instance.specs.Ranges.{range_of, kinds_of};
 
 // The smallest and the largest value of a kind.
-#[derive(Drop)]
+#[derive(Clone, Copy)]
 pub struct Range(pub u32, pub u32);
 
 impl Range {

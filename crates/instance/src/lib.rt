@@ -19,7 +19,7 @@ use schema::{Schema, faults};
 
 // What an instance sheet says, but for links and values, which stand in lent arrays: the link of row r along edge e at 512 * e + r,
 // the value of attribute a at 512 * a + r. Fault is 0, or the number with which the sheet is sent back.
-#[derive(Drop)]
+#[derive(Clone, Copy)]
 pub struct Instance {
     pub fault: u8,
     pub counts: [u32; Schema::NODES],

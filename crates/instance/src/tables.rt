@@ -7,7 +7,7 @@ ghost use Rattle.instance.specs.Tables.{no_table, table_list_of};
 use crate::decode::wide;
 use schema::Schema;
 
-#[derive(Drop)]
+#[derive(Clone, Copy)]
 pub struct Table {
     pub first: usize,
     pub count: usize,

@@ -11,7 +11,7 @@ use schema::decode::{column, small};
 use schema::{Schema, faults};
 
 // An edge's image from a position on, or that the bits end before it does.
-#[derive(Drop)]
+#[derive(Clone, Copy)]
 struct ImageRead {
     cut: bool,
     next: usize,
@@ -52,7 +52,7 @@ fn read_image(sheet: &[u8], at: usize) -> ImageRead
 }
 
 // The images of n edges, one after the other.
-#[derive(Drop)]
+#[derive(Clone, Copy)]
 struct ImagesRead {
     cut: bool,
     next: usize,

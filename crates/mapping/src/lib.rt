@@ -17,7 +17,7 @@ ghost use Rattle.mapping.specs.Judged.{Numbers, Says};
 use schema::{Path, Schema, faults};
 
 // The image of an edge: edges of T, from the image of the edge's source on. Their number is a field of 4 bits.
-#[derive(Drop)]
+#[derive(Clone, Copy)]
 pub struct Image {
     pub length: u8,
     pub edges: [u8; Path::EDGES],
@@ -36,7 +36,7 @@ impl Image {
 }
 
 // What a mapping sheet says; fault is 0, or the number with which the sheet is sent back.
-#[derive(Drop)]
+#[derive(Clone, Copy)]
 pub struct Mapping {
     pub fault: u8,
     pub node: [u8; Mapping::NODES],

@@ -62,7 +62,7 @@ fn place_tables(
 }
 
 // Where the rows of each table of the run stand: in the run's list, and among all pushed rows.
-#[derive(Drop)]
+#[derive(Clone, Copy)]
 struct Places {
     own: [Table; Schema::NODES],
     joined: [Table; Schema::NODES],

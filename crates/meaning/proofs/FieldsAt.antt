@@ -35,7 +35,7 @@ module _ {s : List ℕ} where
 
   pub fields_at-split : {p r : ℕ} (fs : List (ℕ × ℕ)) {gs : List (ℕ × ℕ)} → FieldsAt s p (fs ++ gs) r → Split s p fs gs r
   fields_at-split [] h = record { seam = _; left = none; right = h }
-  fields_at-split (f ∷ fs) (one l e t) = let k = fields_at-split fs t in record { seam = k.seam; left = one l e k.left; right = k.right }
+  fields_at-split {p = p} (f ∷ fs) (one l e t) = let k = fields_at-split {p = p + f.0} fs t in record { seam = k.seam; left = one l e k.left; right = k.right }
 
   pub fields_at-end : {p q : ℕ} {fs : List (ℕ × ℕ)} → FieldsAt s p fs q → q ≡ p + total_width fs
   unfolding total_width

@@ -20,7 +20,7 @@ use steps::tests::{unjoinable, unlisted};
 use steps::{Refusal, Written};
 
 // The run and the components of Pi's tables, with how many families each table has, where the refusal is none; else the refusal alone counts.
-#[derive(Drop)]
+#[derive(Clone, Copy)]
 pub struct Joined {
     pub refusal: Refusal,
     pub run: Instance,

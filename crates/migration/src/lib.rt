@@ -23,14 +23,14 @@ pub use steps::{Refusal, Written};
 pub use turnings::{pushed_to_raw, raw_to_pushed};
 
 // The answer of a check.
-#[derive(Drop)]
+#[derive(Clone, Copy)]
 pub enum Verdict {
     Accepted,
     Refused(Refusal),
 }
 
 // The answer to which steps lead from one path to another: the byte length of the chain's sheet, or that the paths are unequal.
-#[derive(Drop)]
+#[derive(Clone, Copy)]
 pub enum Explained {
     Chain(usize),
     Unequal,

@@ -154,7 +154,7 @@ fn judge_raw(
 }
 
 // From Sigma of the run to the book, or from the run to Delta of the book.
-#[derive(Drop)]
+#[derive(Clone, Copy)]
 pub enum Side {
     Pushed,
     Raw,

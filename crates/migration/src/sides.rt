@@ -8,7 +8,7 @@ use steps::Refusal;
 use steps::open::{Opened, uneven};
 
 // What the five sheets say, where the refusal is none. Links and values of the run and the book stand in working arrays.
-#[derive(Drop)]
+#[derive(Clone, Copy)]
 pub struct Sides {
     pub refusal: Refusal,
     pub opened: Opened,

@@ -14,7 +14,7 @@ use schema::numbers::{index, wide};
 use schema::{Path, Schema};
 
 // The class number of each path.
-#[derive(Drop)]
+#[derive(Clone, Copy)]
 pub struct Classes {
     pub of: [u8; Schema::PATHS],
 }

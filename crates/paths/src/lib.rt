@@ -15,7 +15,7 @@ use schema::Schema;
 // All paths of a graph, numbered in the paper's order. For each path: its start, its end and its length; the number of the path without its
 // last edge, and that edge; the number of the first path of its class. The paths that follow path i by one edge stand from first[i] on, in
 // the order of the edges; an edge's rank is its place among those that leave its source.
-#[derive(Drop)]
+#[derive(Clone, Copy)]
 pub struct Paths {
     pub count: usize,
     pub start: [u8; Schema::PATHS],

@@ -16,7 +16,7 @@ use schema::Graph;
 use schema::numbers::{index, wide};
 
 // The rows of a table in the list of all rows: the first, how many, and how many numbers each has.
-#[derive(Drop)]
+#[derive(Clone, Copy)]
 pub struct TableRows {
     pub first: usize,
     pub count: usize,

@@ -12,7 +12,7 @@ use steps::open::{Category, between, open_mapping, open_schema, uneven};
 use steps::tests::unjoinable;
 
 // What the seven sheets say, where the refusal's number is 0.
-#[derive(Drop)]
+#[derive(Clone, Copy)]
 pub struct Query {
     pub refusal: Refusal,
     pub first: Schema,

@@ -62,7 +62,7 @@ fn sum_nodes(nodes: usize, tally: &[u16; TALLY], at: usize) -> u16
 }
 
 // How many paths have fewer edges than there are nodes, and whether any has as many.
-#[derive(Drop)]
+#[derive(Clone, Copy)]
 pub struct Count {
     pub paths: usize,
     pub looped: bool,

@@ -33,7 +33,7 @@ pub fn column(s: &[u8], at: usize, step: usize, width: usize, n: usize) -> [u8; 
 }
 
 // A path from a position on, or that the bits end before it does.
-#[derive(Drop)]
+#[derive(Clone, Copy)]
 pub struct PathRead {
     pub cut: bool,
     pub next: usize,
@@ -76,7 +76,7 @@ pub fn read_path(s: &[u8], at: usize) -> PathRead
 }
 
 // Two paths, one after the other.
-#[derive(Drop)]
+#[derive(Clone, Copy)]
 struct EquationRead {
     cut: bool,
     next: usize,
@@ -141,7 +141,7 @@ fn read_graph(s: &[u8], nodes: usize, edges: usize) -> Graph
 }
 
 // The leading counts.
-#[derive(Drop)]
+#[derive(Clone, Copy)]
 pub(crate) struct Counts {
     nodes: usize,
     edges: usize,

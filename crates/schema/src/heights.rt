@@ -11,7 +11,7 @@ use crate::{Graph, Schema};
 
 // The edges that leave a node, from the last to the first. An edge e is said by e + 1, and 0 says that there is none: for each node the last edge that
 // leaves it, and for each edge the last one before it that leaves its source.
-#[derive(Drop)]
+#[derive(Clone, Copy)]
 struct Leaving {
     last: [u8; Schema::NODES],
     before: [u8; Schema::EDGES],

@@ -17,7 +17,7 @@ use bits::reader::{ends_at, lacks_at};
 use decode::Counts;
 
 // Nodes (tables) and edges (links): all that paths depend on.
-#[derive(Drop)]
+#[derive(Clone, Copy)]
 pub struct Graph {
     pub nodes: usize,
     pub edges: usize,
@@ -26,7 +26,7 @@ pub struct Graph {
 }
 
 // A path: a start node and edges that join up.
-#[derive(Drop)]
+#[derive(Clone, Copy)]
 pub struct Path {
     pub start: u8,
     pub length: u8,
@@ -50,7 +50,7 @@ impl Path {
 }
 
 // What a schema sheet says; fault is 0, or the number with which the sheet is sent back.
-#[derive(Drop)]
+#[derive(Clone, Copy)]
 pub struct Schema {
     pub fault: u8,
     pub graph: Graph,
@@ -146,7 +146,7 @@ pub fn judge_schema(s: &[u8]) -> Schema
 }
 
 // A path sheet judged: the path, where fault is 0, or the number with which the sheet is sent back.
-#[derive(Drop)]
+#[derive(Clone, Copy)]
 pub struct JudgedPath {
     pub fault: u8,
     pub path: Path,

@@ -9,7 +9,7 @@ use crate::numbers::wide;
 use crate::{Graph, Path, Schema};
 
 // Whether a path's start and edges exist and join up, and where it ends.
-#[derive(Drop)]
+#[derive(Clone, Copy)]
 pub struct PathEnd {
     pub joins: bool,
     pub last: u8,

@@ -13,7 +13,7 @@ ghost use Rattle.steps.specs.Answers.{or_next, first_refusal};
 
 // Why a call refuses: a number from 1 to 19 and the place of the sheet that it is about, counted from 1, or 0 for all sheets together and for a change itself.
 // Inside the library the number 0 is no refusal.
-#[derive(Drop)]
+#[derive(Clone, Copy)]
 pub struct Refusal {
     pub number: u8,
     pub place: u8,
@@ -70,7 +70,7 @@ impl Refusal {
 }
 
 // The answer of a call that writes its result into a lent tray: the result's byte length.
-#[derive(Drop)]
+#[derive(Clone, Copy)]
 pub enum Written {
     Bytes(usize),
     Refused(Refusal),

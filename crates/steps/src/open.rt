@@ -17,7 +17,7 @@ use paths::{Paths, path_table};
 use schema::{Schema, judge_schema};
 
 // A schema with the table of its paths.
-#[derive(Drop)]
+#[derive(Clone, Copy)]
 pub struct Category {
     pub schema: Schema,
     pub paths: Paths,
@@ -51,7 +51,7 @@ pub fn open_mapping(source: Schema, target: Category, f: &[u8]) -> Mapping
 }
 
 // What the three sheets say, where the refusal's number is 0.
-#[derive(Drop)]
+#[derive(Clone, Copy)]
 pub struct Opened {
     pub refusal: Refusal,
     pub source: Schema,

@@ -11,7 +11,7 @@ use crate::results::{Migrated, overfull};
 use instance::{Instance, judge_instance};
 
 // What the sheets of a mapping and of a run say, where the refusal is none: the mapping is even, and the run's links and values stand in working arrays.
-#[derive(Drop)]
+#[derive(Clone, Copy)]
 pub struct Run {
     pub refusal: Refusal,
     pub tables: Instance,

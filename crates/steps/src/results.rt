@@ -15,7 +15,7 @@ use instance::decode::total;
 use schema::Schema;
 
 // A migrated instance with its schema, where the refusal is none. Its links and values stand in working arrays.
-#[derive(Drop)]
+#[derive(Clone, Copy)]
 pub struct Migrated {
     pub refusal: Refusal,
     pub schema: Schema,

@@ -6,7 +6,7 @@ ghost use Rattle.text.specs.Framed.{LengthFound, LiesIn, part_of, SheetFound, Nt
 use schema::numbers::wide;
 
 // The bytes from start up to, not including, end.
-#[derive(Drop)]
+#[derive(Clone, Copy)]
 pub struct Part {
     pub start: usize,
     pub end: usize,

@@ -15,7 +15,7 @@ ghost use Rattle.meaning.specs.Program.{printed, shown};
 ghost use Rattle.text.specs.Written.{max_text_bytes, Written, Printable, migrated_of};
 
 // A text at the front of a buffer.
-#[derive(Drop)]
+#[derive(Clone, Copy)]
 pub struct Text {
     pub length: usize,
 }

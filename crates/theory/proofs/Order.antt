@@ -174,6 +174,7 @@ mem-get_or d (x ∷ l) zero h = Memᴰ.head refl
 mem-get_or d (x ∷ l) (suc i) h = Memᴰ.tail (mem-get_or d l i (omega arith))
 
 pub mem-position : {A : Type 0} (d x : A) (l : List A) → Memᴰ x l → (i : ℕ) × (i < length l) × (get_or l i d ≡ x)
+mem-position {A = A} d x [] h = elim h [ ]
 mem-position d x (y ∷ l) (Memᴰ.head e) = (0, omega arith, sym e)
 mem-position d x (y ∷ l) (Memᴰ.tail m) = let r = mem-position d x l m in (suc r.0, omega (arith, r.1), r.2)
 
