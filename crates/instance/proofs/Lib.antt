@@ -6,6 +6,5 @@ pub mod Following
 pub mod Walking
 pub mod TableList
 pub mod Judging
-pub mod Lent
 pub mod Rooms
 pub mod Validity

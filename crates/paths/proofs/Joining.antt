@@ -152,7 +152,7 @@ turns-to : {F : ℕ → List (ℕ × ℕ)} {n i k : ℕ} {l m : List ℕ} (d : �
 turns-to {F} {n} {i} {k} {l} {m} zero e t h none = let z : i ≡ k = omega arith in subst (λ (x : ℕ). Turns F n l x m) z t
 turns-to {F} {n} {i} {k} {l} {m} (suc d) e t h none =
     let less : i < k = omega arith in
-    turns-to d (omega arith) (turns_more t (omega arith) (rw (none i less (omega arith)))) h (λ j a b. none j a (omega arith))
+    turns-to {i = i + 1} d (omega arith) (turns_more t (omega arith) (rw (none i less (omega arith)))) h (λ j a b. none j a (omega arith))
 
 -- behind paths that end elsewhere there is nothing to join
 pub turns_next : {F : ℕ → List (ℕ × ℕ)} {n i k v : ℕ} {l m ends : List ℕ} → ((j : ℕ) → (get_or ends j 0 ≡ v → ⊥) → F j ≡ []) → Turns F n l i m → NextAt ends v i n k → Turns F n l k m

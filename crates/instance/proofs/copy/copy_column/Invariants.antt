@@ -1,0 +1,10 @@
+-- `instance::copy::copy_column` meets its contract.
+use Prim.Native.Nat.{◌-◌, ◌≤◌}
+use Rattle.instance.specs.Stored.{Copied}
+use Rattle.instance.proofs.copy.copy_column.Given as goal
+
+abbrev pub invariant-loop-i : goal.invariant-loop-i
+invariant-loop-i l = (l.i ≤ l.n) × Copied l.list l.place l.i l.base l.initial.out l.out
+
+abbrev pub decreases-loop-i : goal.decreases-loop-i
+decreases-loop-i l = l.n - l.i
