@@ -1,15 +1,19 @@
 -- `paths::classes::join_equation` meets its contract. The invariant: the pairs behind the first u paths are joined, and path u ends at the equation's start.
 use Prim.Native.Nat.{ℕ, ◌+◌, ◌-◌, ◌<◌}
-use mathlib.Core.Path.{sym, subst}
+use mathlib.Core.Path.{sym, subst, ap, ◌∙◌}
 use mathlib.Core.List.{List}
 use native.Mathlib.Omega.{arith}
 use borrow.Author.Tests.{eq-eqb, ne_eqb}
 use lib.ListN.{get_or}
 use Rattle.paths.specs.Chains.{NextAt, Chained}
 use Rattle.paths.proofs.Joining.{turns-start, turns_more, turns_next, turns-done}
-use Rattle.paths.proofs.classes.join_equation.Invariants.{table, first}
-use Rattle.paths.proofs.classes.join_equation.Goals.{After-index-u-in-loop-u, In-loop-u}
+use Rattle.paths.proofs.classes.join_equation.Invariants.{table}
+use Rattle.paths.proofs.classes.join_equation.Goals.{After-index-u, After-index-u-in-loop-u, In-loop-u}
 use Rattle.paths.proofs.classes.join_equation.Goals as goal
+
+-- the first path that ends at the equation's start
+first : (c : After-index-u) {end : List ℕ} → Chained end c.args.p.count 0 c.args.next.now c.args.ends.now → NextAt end c.args.left.start 0 c.args.p.count c.index-u.result
+first c {end} k = subst (NextAt end c.args.left.start 0 c.args.p.count) (sym (c.index-u.ensures ∙ ap (λ (v : ℕ). get_or c.args.ends.now v 0) c.wide.ensures)) (k.begins c.args.left.start c.requires.0.start)
 
 -- path u is in the table
 low : (c : In-loop-u) → c.loop-u.u < 256
@@ -18,10 +22,10 @@ low c = omega (arith, c.loop-u-test.true, c.requires.0.few)
 -- and the one after path u
 after : (c : After-index-u-in-loop-u) {end : List ℕ} → Chained end c.args.p.count 0 c.args.next.now c.args.ends.now → NextAt end c.args.left.start (c.loop-u.u + 1) c.args.p.count c.index-u-in-loop-u.result
 after c {end} k =
-    let u = c.before.before.before.before.before.before.before.before.before.before.before.before.before.before.before.before.loop.u in
-    let less = c.before.before.before.before.before.before.before.before.before.before.before.before.before.before.before.loop-test.true in
-    let n = c.before.before.before.before.before.before.before.before.before.before.before.before.before.before.before.before.before.before.before.before.before.before.before.args.p.count in
-    subst (λ (v : ℕ). NextAt end v (u + 1) n c.index2.result) ((c.before.before.before.before.before.before.before.before.before.before.before.before.before.before.before.before.loop.invariant end k).1 less) (subst (NextAt end (get_or end u 0) (u + 1) n) (sym c.index2.ensures) (k.after u (omega arith) less))
+    let u = c.loop-u.u in
+    let less = c.loop-u-test.true in
+    let n = c.args.p.count in
+    subst (λ (v : ℕ). NextAt end v (u + 1) n c.index-u-in-loop-u.result) ((c.loop-u.invariant end k).1 less) (subst (NextAt end (get_or end u 0) (u + 1) n) (sym c.index-u-in-loop-u.ensures) (k.after u (omega arith) less))
 
 pub offset_bounds-ends-wide : goal.offset_bounds-ends-wide
 offset_bounds-ends-wide c = omega (arith, c.wide.ensures, c.requires.0.start)
@@ -41,21 +45,19 @@ walk-a-requires c =
 
 pub walk-b-requires : goal.walk-b-requires
 walk-b-requires c =
-    let a = c.before.before.before.before.before.before.before.before.before.before.before.before.before.before.before.before.before in
-    let f = a.requires.0.right_short in
+    let f = c.requires.0.right_short in
     let v = c.loop-u in
     let less = c.loop-u-test.true in
-    (omega arith, a.requires.0.right v.u less ((v.invariant a.args.p.end a.requires.2).1 less))
+    (omega arith, c.requires.0.right v.u less ((v.invariant c.args.p.end c.requires.2).1 less))
 
 pub join_followers-requires : goal.join_followers-requires
 join_followers-requires c =
-    let a = c.before.before.before.before.before.before.before.before.before.before.before.before.before.before.before.before.before.before.before.before in
     let v = c.loop-u in
     let less = c.loop-u-test.true in
-    rw (c.walk-a.ensures, c.walk-b.ensures) (a.requires.0.runs v.u less ((v.invariant a.args.p.end a.requires.2).1 less))
+    rw (c.walk-a.ensures, c.walk-b.ensures) (c.requires.0.runs v.u less ((v.invariant c.args.p.end c.requires.2).1 less))
 
 pub offset_bounds-next-u : goal.offset_bounds-next-u
-offset_bounds-next-u c = omega (arith, low (goal.at.offset_bounds-next-u c).After-index-u)
+offset_bounds-next-u c = omega (arith, low (goal.at.offset_bounds-next-u c).In-loop-u)
 
 pub bounds-next-u : goal.bounds-next-u
 bounds-next-u c = omega (arith, c.loop-u-test.true, c.requires.1)

@@ -18,7 +18,3 @@ invariant-loop-u l = (end : List ℕ) → Chained end l.count 0 l.next l.ends �
 
 abbrev pub decreases-loop-u : goal.decreases-loop-u
 decreases-loop-u l = l.count - l.u
-
--- the first path that ends at the equation's start
-pub first : (c : After-index-u) {end : List ℕ} → Chained end c.args.p.count 0 c.args.next.now c.args.ends.now → NextAt end c.args.left.start 0 c.args.p.count c.index-u.result
-first c {end} k = subst (NextAt end c.before.before.before.before.before.before.args.t5.start 0 c.before.before.before.before.before.before.args.p.count) (sym (c.index.ensures ∙ ap (λ (v : ℕ). get_or c.before.before.before.before.before.before.args.ends.now v 0) c.before.before.wide.ensures)) (k.begins c.before.before.before.before.before.before.args.t5.start c.before.before.before.before.before.before.requires.0.start)

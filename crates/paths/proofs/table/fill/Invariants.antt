@@ -2,7 +2,6 @@
 use Prim.Native.Nat.{◌+◌, ◌-◌, ◌*◌, ◌<◌}
 use mathlib.Core.Path.{◌≡◌}
 use lib.ListN.{get_or}
-use Rattle.meaning.specs.Schema.{source}
 use Rattle.agreement.specs.Paths.{path_count}
 use Rattle.schema.specs.Decoded.{graph_of}
 use Rattle.paths.specs.PathNumbers.{end_of}
