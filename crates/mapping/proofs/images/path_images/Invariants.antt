@@ -1,0 +1,18 @@
+-- `mapping::images::path_images` meets its contract. The invariant: the first i numbers are those of the images.
+use Prim.Native.Nat.{ℕ, ◌-◌, ◌≤◌}
+use Rattle.schema.specs.Decoded.{schema_of}
+use Rattle.paths.specs.Table.{Filled}
+use Rattle.mapping.specs.Decoded.{mapping_of}
+use Rattle.mapping.specs.Judged.{image_number}
+use Rattle.mapping.proofs.ImageTable.{Numbered}
+use Rattle.mapping.proofs.images.path_images.Given as goal
+
+abbrev pub invariant-loop-i : goal.invariant-loop-i
+invariant-loop-i l = (l.i ≤ l.count) × ((number : ℕ → ℕ) → Numbered l.s.graph.nodes l.count l.parents l.lasts l.first l.rank l.node l.edge number → Filled 256 number l.i l.path)
+
+abbrev pub decreases-loop-i : goal.decreases-loop-i
+decreases-loop-i l = l.count - l.i
+
+-- ---- the number of a path's image
+abbrev pub number : Start → ℕ → ℕ
+number c = image_number (schema_of c.args.s) (schema_of c.args.t) (mapping_of c.args.s c.args.f)
