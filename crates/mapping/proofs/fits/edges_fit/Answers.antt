@@ -7,13 +7,13 @@ use Rattle.meaning.proofs.Tabulate.{passed_start, passed-more}
 use Rattle.schema.proofs.SoundSchema.{source_in, target-in}
 use Rattle.mapping.proofs.Viewing.{upto-fail, upto_done}
 use Rattle.mapping.proofs.Fitting.{edge_test, edges-test}
-use Rattle.mapping.proofs.fits.edges_fit.Goals.{After-image-1, After-image_fits}
+use Rattle.mapping.proofs.fits.edges_fit.Goals.{After-image-1, After-image_fits, After-wide-target}
 use Rattle.mapping.proofs.fits.edges_fit.Goals as goal
 
-source_low : (c : After-image-1) → c.wide-source.result < 16
+source_low : (c : After-wide-target) → c.wide-source.result < 16
 source_low c = let p = c.requires.0 in omega (arith, c.wide-source.ensures, source_in _ p c.loop-e.e c.loop-e-test.true, p.limits.nodes)
 
-target_low : (c : After-image-1) → c.wide-target.result < 16
+target_low : (c : After-wide-target) → c.wide-target.result < 16
 target_low c = let p = c.requires.0 in omega (arith, c.wide-target.ensures, target-in _ p c.loop-e.e c.loop-e-test.true, p.limits.nodes)
 
 tested : (c : After-image_fits) → edge_test c.args.s.graph c.args.t.graph c.args.f.node c.args.f.edge c.loop-e.e ≡ c.image_fits.result
@@ -26,10 +26,10 @@ pub loop-e-init : goal.loop-e-init
 loop-e-init c = passed_start _ _ _
 
 pub bounds-node-source : goal.bounds-node-source
-bounds-node-source c = source_low c
+bounds-node-source c = source_low (goal.at.bounds-node-source c).After-wide-target
 
 pub bounds-node-target : goal.bounds-node-target
-bounds-node-target c = target_low c
+bounds-node-target c = target_low (goal.at.bounds-node-target c).After-wide-target
 
 pub image_fits-requires : goal.image_fits-requires
 image_fits-requires c =

@@ -57,10 +57,10 @@ pub bounds-edge-e : goal.bounds-edge-e
 bounds-edge-e c = omega (arith, edge-is c, c.requires.edges c.loop-i.i c.loop-i-test.true)
 
 pub overflow_cast-image : goal.overflow_cast-image
-overflow_cast-image c = let s = short (goal.at.overflow_cast-image c).In-loop-i in omega arith
+overflow_cast-image c = let s = short (goal.at.overflow_cast-image c).After-wide-e in omega arith
 
 pub walk-x-requires : goal.walk-x-requires
-walk-x-requires c = let s = short (goal.at.walk-x-requires c).In-loop-i in (omega arith, (parts (goal.at.walk-x-requires c).In-loop-i).0)
+walk-x-requires c = let s = short (goal.at.walk-x-requires c).After-wide-e in (omega arith, (parts (goal.at.walk-x-requires c).After-wide-e).0)
 
 pub overflow_add-i : goal.overflow_add-i
 overflow_add-i c = let s = c.requires.short in omega (arith, c.loop-i-test.true)
@@ -74,8 +74,8 @@ loop-i-preserved c =
     let v = c.loop-i in
     let w : c.walk-x.result ≡ walk_from a.first.now a.rank.now v.x (image_of (get_or a.edge c.wide-e.result no_image)) = c.walk-x.ensures in (
       omega (arith, c.loop-i-test.true),
-      v.invariant.1 ∙ ap (λ (l : List ℕ). walk_from a.first.now a.rank.now v.x (joined_images a.edge l)) (next (goal.at.loop-i-preserved c).In-loop-i) ∙ walk-append a.first.now a.rank.now v.x (image_of (get_or a.edge c.wide-e.result no_image)) (joined_images a.edge (drop (v.i + 1) (edges (goal.at.loop-i-preserved c).In-loop-i))) ∙ rw w,
-      rw w (parts (goal.at.loop-i-preserved c).In-loop-i).1,
+      v.invariant.1 ∙ ap (λ (l : List ℕ). walk_from a.first.now a.rank.now v.x (joined_images a.edge l)) (next (goal.at.loop-i-preserved c).After-wide-e) ∙ walk-append a.first.now a.rank.now v.x (image_of (get_or a.edge c.wide-e.result no_image)) (joined_images a.edge (drop (v.i + 1) (edges (goal.at.loop-i-preserved c).After-wide-e))) ∙ rw w,
+      rw w (parts (goal.at.loop-i-preserved c).After-wide-e).1,
     )
 
 pub returns : goal.returns

@@ -6,28 +6,34 @@ use lib.ListN.{get_or}
 use Rattle.paths.specs.Table.{Filled}
 use Rattle.paths.proofs.Filling.{filled-start, filled_more}
 use Rattle.mapping.proofs.ImageTable.{Numbered, number_low, Turn, longer-image, numbered}
-use Rattle.mapping.proofs.images.path_images.Invariants.{number}
-use Rattle.mapping.proofs.images.path_images.Goals.{After-walk, After-wide, After-wide-last, After-wide-parent, Else-k-s}
+use Rattle.schema.specs.Decoded.{schema_of}
+use Rattle.mapping.specs.Decoded.{mapping_of}
+use Rattle.mapping.specs.Judged.{image_number}
+use Rattle.mapping.proofs.images.path_images.Goals.{After-walk, After-wide, After-wide-last, After-wide-parent, Else-k-s, Start}
 use Rattle.mapping.proofs.images.path_images.Goals as goal
+
+-- ---- the number of a path's image
+abbrev number : Start → ℕ → ℕ
+number c = image_number (schema_of c.args.s) (schema_of c.args.t) (mapping_of c.args.s c.args.f)
 
 turn : (c : Else-k-s) → Turn c.requires c.loop-i.i
 turn c = longer-image c.requires c.loop-i.i c.if-k-s.false c.loop-i-test.true
 
-parent_is : (c : After-wide-parent) → c.wide-parent.result ≡ get_or c.args.source-paths.parent c.loop-i.i 0
+parent_is : (c : After-wide-parent) → c.wide-parent.result ≡ get_or c.args.source_paths.parent c.loop-i.i 0
 parent_is c = c.wide-parent.ensures
 
-last-is : (c : After-wide-last) → c.wide-last.result ≡ get_or c.args.source-paths.last c.loop-i.i 0
+last-is : (c : After-wide-last) → c.wide-last.result ≡ get_or c.args.source_paths.last c.loop-i.i 0
 last-is c = c.wide-last.ensures
 
 -- where the walk begins
-begins : (c : After-wide) (n : ℕ → ℕ) → Filled 256 n c.loop-i.i c.loop-i.path → c.wide.result ≡ n (get_or c.args.source-paths.parent c.loop-i.i 0)
+begins : (c : After-wide) (n : ℕ → ℕ) → Filled 256 n c.loop-i.i c.loop-i.path → c.wide.result ≡ n (get_or c.args.source_paths.parent c.loop-i.i 0)
 begins c n p =
     let e : c.wide.result ≡ get_or c.loop-i.path c.wide-parent.result 0 = c.wide.ensures in
-    e ∙ rw ((c.wide-parent.ensures)) (p.each (get_or c.args.source-paths.parent c.loop-i.i 0) ((longer-image c.requires c.loop-i.i c.if-k-s.false c.loop-i-test.true)).parent_below)
+    e ∙ rw ((c.wide-parent.ensures)) (p.each (get_or c.args.source_paths.parent c.loop-i.i 0) ((longer-image c.requires c.loop-i.i c.if-k-s.false c.loop-i-test.true)).parent_below)
 
 -- and where it ends
-walked : (c : After-walk) (n : ℕ → ℕ) → Numbered c.args.s.graph.nodes c.args.source-paths.count c.args.source-paths.parent c.args.source-paths.last c.args.target-paths.first c.args.target-paths.rank c.args.f.node c.args.f.edge n → c.walk.result ≡ n c.loop-i.i
-walked c n r = c.walk.ensures ∙ rw (begins c n (c.loop-i.invariant.1 n r), (c.wide-last.ensures)) (r.longer c.loop-i.i c.if-k-s.false c.loop-i-test.true)
+walked : (c : After-walk) (n : ℕ → ℕ) → Numbered c.args.s.graph.nodes c.args.source_paths.count c.args.source_paths.parent c.args.source_paths.last c.args.target_paths.first c.args.target_paths.rank c.args.f.node c.args.f.edge n → c.walk.result ≡ n c.loop-i.i
+walked c n r = c.walk.ensures ∙ rw (begins c.before.before n (c.loop-i.invariant.1 n r), (c.wide-last.ensures)) (r.longer c.loop-i.i c.if-k-s.false c.loop-i-test.true)
 
 pub loop-i-init : goal.loop-i-init
 loop-i-init c = (omega arith, λ n r. filled-start 256 _)
@@ -67,12 +73,12 @@ pub bounds-path-parent : goal.bounds-path-parent
 bounds-path-parent c = let f = (turn (goal.at.bounds-path-parent c).Else-k-s).parent_below in let k = c.requires.schemas.source-paths.table.few in let e = parent_is (goal.at.bounds-path-parent c).After-wide-parent in let l = c.loop-i-test.true in omega arith
 
 pub overflow_cast-image : goal.overflow_cast-image
-overflow_cast-image c = let s = rw (← last-is (goal.at.overflow_cast-image c).After-wide-parent) at (turn (goal.at.overflow_cast-image c).In-loop-i).short in omega arith
+overflow_cast-image c = let s = rw (← last-is (goal.at.overflow_cast-image c).After-wide-last) at (turn (goal.at.overflow_cast-image c).Else-k-s).short in omega arith
 
 pub walk-requires : goal.walk-requires
 walk-requires c =
-    let f = turn (goal.at.walk-requires c).In-loop-i in
-    rw (begins (goal.at.walk-requires c).After-rank-else-k-s-1 (number (goal.at.walk-requires c).Start) (c.loop-i.invariant.1 (number (goal.at.walk-requires c).Start) (numbered c.requires)), last-is (goal.at.walk-requires c).After-wide-parent) (let s = f.short in omega arith, f.within)
+    let f = turn (goal.at.walk-requires c).Else-k-s in
+    rw (begins (goal.at.walk-requires c).After-wide (number (goal.at.walk-requires c).Start) (c.loop-i.invariant.1 (number (goal.at.walk-requires c).Start) (numbered c.requires)), last-is (goal.at.walk-requires c).After-wide-last) (let s = f.short in omega arith, f.within)
 
 pub overflow_cast-path : goal.overflow_cast-path
 overflow_cast-path c = omega (arith, walked c (number (goal.at.overflow_cast-path c).Start) (numbered c.requires), number_low c.requires c.loop-i.i c.loop-i-test.true)
@@ -92,5 +98,5 @@ loop-i-preserved c =
 pub returns : goal.returns
 returns c =
     let v = c.loop-i in
-    let e : v.i ≡ c.args.source-paths.count = let x = v.invariant.0 in let y = c.loop-i-test.false in omega arith in
+    let e : v.i ≡ c.args.source_paths.count = let x = v.invariant.0 in let y = c.loop-i-test.false in omega arith in
     rw e at (v.invariant.1 (number (goal.at.returns c).Start) (numbered c.requires))

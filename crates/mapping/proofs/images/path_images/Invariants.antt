@@ -12,7 +12,3 @@ invariant-loop-i l = (l.i ≤ l.count) × ((number : ℕ → ℕ) → Numbered l
 
 abbrev pub decreases-loop-i : goal.decreases-loop-i
 decreases-loop-i l = l.count - l.i
-
--- ---- the number of a path's image
-abbrev pub number : Start → ℕ → ℕ
-number c = image_number (schema_of c.args.s) (schema_of c.args.t) (mapping_of c.args.s c.args.f)

@@ -46,4 +46,4 @@ pub bounds-after-table-2 : goal.bounds-after-table-2
 bounds-after-table-2 c = let n = c.requires.0.limits.nodes in omega (arith, c.requires.1)
 
 pub returns : goal.returns
-returns c = let a = c.args in row_put a.schema c.requires.0 a.run c.requires.2 a.table c.requires.1 a.row-links.now a.row-values.now a.links.now a.values.now _ _ c.requires.3 (rw c.one_row-row.ensures at c.join_columns.ensures) (rw c.one_row-row.ensures at c.join_columns-2.ensures)
+returns c = let a = c.args in row_put a.schema c.requires.0 a.run c.requires.2 a.table c.requires.1 a.row_links.now a.row_values.now a.links.now a.values.now _ _ c.requires.3 (rw c.one_row-row.ensures at c.join_columns.ensures) (rw c.one_row-row.ensures at c.join_columns-2.ensures)

@@ -29,4 +29,4 @@ columns_below-requires c = let a = c.args in
 pub returns : goal.returns
 returns c = let a = c.args in
     let r = rw c.one_row-row.ensures at c.columns_below.ensures in
-    r ∙ sym (row-links-test a.schema c.requires.0 a.run [] [] (row_with a.table 0) a.row-links.now [])
+    r ∙ sym (row-links-test a.schema c.requires.0 a.run [] [] (row_with a.table 0) a.row_links.now [])

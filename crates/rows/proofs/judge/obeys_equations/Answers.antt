@@ -26,14 +26,14 @@ bent-requires c = let a = c.args in
     let l = c.loop-k-test.true in
     let s = sym c.wide.ensures ∙ c.if-wide-table.true in
     let M = c.requires.0.limits in
-    (M.left.each k l, M.right.each k l, (left-led a.schema c.requires.0 a.run a.table c.requires.1 a.links.now a.row-links.now c.requires.2 c.requires.3 k l s).stays, (right-led a.schema c.requires.0 a.run a.table c.requires.1 a.links.now a.row-links.now c.requires.2 c.requires.3 k l s).stays)
+    (M.left.each k l, M.right.each k l, (left-led a.schema c.requires.0 a.run a.table c.requires.1 a.links.now a.row_links.now c.requires.2 c.requires.3 k l s).stays, (right-led a.schema c.requires.0 a.run a.table c.requires.1 a.links.now a.row_links.now c.requires.2 c.requires.3 k l s).stays)
 
 pub returns-then-bent : goal.returns-then-bent
 returns-then-bent c =
     let a = c.args in
     let k = c.loop-k.k in
-    let bent = bent-here a.schema a.table a.links.now a.row-links.now c.wide-own.result k true (sym c.wide.ensures ∙ c.if-wide-table.true) (sym c.bent.ensures ∙ c.if-bent.true) in
-    sym (equations-test a.schema c.requires.0 a.run a.table c.requires.1 a.links.now a.row-links.now c.requires.2 c.requires.3 ∙ rw (← c.wide-own.ensures) (passed-fail c.loop-k.invariant c.loop-k-test.true bent))
+    let bent = bent-here a.schema a.table a.links.now a.row_links.now c.wide-own.result k true (sym c.wide.ensures ∙ c.if-wide-table.true) (sym c.bent.ensures ∙ c.if-bent.true) in
+    sym (equations-test a.schema c.requires.0 a.run a.table c.requires.1 a.links.now a.row_links.now c.requires.2 c.requires.3 ∙ rw (← c.wide-own.ensures) (passed-fail c.loop-k.invariant c.loop-k-test.true bent))
 
 pub overflow_add-k : goal.overflow_add-k
 overflow_add-k c = omega arith
@@ -48,9 +48,9 @@ loop-k-preserved c =
     let v = c.loop-k.invariant in
     let t = c.loop-k-test.true in
     ⊎_elim
-    (λ w. passed-more v t (bent-here a.schema a.table a.links.now a.row-links.now c.wide-own.result k false (sym c.wide.ensures ∙ w.0.taken) (sym w.1.ensures ∙ w.2.left)))
-    (λ w. passed-more v t (bent-apart a.schema a.table a.links.now a.row-links.now c.wide-own.result k (λ e. w.left (c.wide.ensures ∙ e))))
+    (λ w. passed-more v t (bent-here a.schema a.table a.links.now a.row_links.now c.wide-own.result k false (sym c.wide.ensures ∙ w.0.taken) (sym w.1.ensures ∙ w.2.left)))
+    (λ w. passed-more v t (bent-apart a.schema a.table a.links.now a.row_links.now c.wide-own.result k (λ e. w.left (c.wide.ensures ∙ e))))
     c.if-wide-table.branch
 
 pub returns : goal.returns
-returns c = let a = c.args in sym (equations-test a.schema c.requires.0 a.run a.table c.requires.1 a.links.now a.row-links.now c.requires.2 c.requires.3 ∙ rw (← c.wide-own.ensures) (passed-done c.loop-k.invariant c.loop-k-test.false))
+returns c = let a = c.args in sym (equations-test a.schema c.requires.0 a.run a.table c.requires.1 a.links.now a.row_links.now c.requires.2 c.requires.3 ∙ rw (← c.wide-own.ensures) (passed-done c.loop-k.invariant c.loop-k-test.false))
