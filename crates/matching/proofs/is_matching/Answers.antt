@@ -20,10 +20,10 @@ node_long c = search rules
 exist : (c : Then-partners_exist) → Exist c.requires c.table_list-tables.result c.table_list-tables.ensures ≡ true
 exist c = sym c.partners_exist.ensures ∙ c.if-partners_exist.true
 
-links-pass : (c : Then-links_kept) → LinksKept c.requires c.table_list-tables.result c.table_list-tables.ensures (exist c) ≡ true
+links-pass : (c : Then-links_kept) → LinksKept c.requires c.table_list-tables.result c.table_list-tables.ensures (sym c.partners_exist.ensures ∙ c.if-partners_exist.true) ≡ true
 links-pass c = sym c.links_kept.ensures ∙ c.if-links_kept.true
 
-links-differ : (c : Else-links_kept) → LinksKept c.requires c.table_list-tables.result c.table_list-tables.ensures (exist c) ≡ false
+links-differ : (c : Else-links_kept) → LinksKept c.requires c.table_list-tables.result c.table_list-tables.ensures (sym c.partners_exist.ensures ∙ c.if-partners_exist.true) ≡ false
 links-differ c = sym c.links_kept.ensures ∙ c.if-links_kept.false
 
 pub partners_exist-requires : goal.partners_exist-requires

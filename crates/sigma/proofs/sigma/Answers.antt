@@ -1,4 +1,5 @@
 -- `sigma::sigma` meets its contract.
+use borrow.Author.Rules.{rules}
 use mathlib.Core.Path.{sym}
 use Rattle.sigma.proofs.Pushing.{all-lead, all-over, counts_are, links-are, values-are, pushed}
 use Rattle.sigma.proofs.sigma.Goals.{After-lifts-1}
@@ -7,7 +8,7 @@ use Rattle.sigma.proofs.sigma.Goals as goal
 pub sigma_links-requires : goal.sigma_links-requires
 sigma_links-requires c =
     let P = c.requires.0 in
-    (P.schemas.source.limits.nodes, P.schemas.target.limits.edges, P.limits, sym (slice-aggregate-sigma-links (goal.at.sigma_links-requires c).After-lifts-1), all-lead P c.requires.1.for_links c.edge_lifts-lifts.ensures, c.requires.2.for_links)
+    (P.schemas.source.limits.nodes, P.schemas.target.limits.edges, P.limits, search rules, all-lead P c.requires.1.for_links c.edge_lifts-lifts.ensures, c.requires.2.for_links)
 
 pub sigma_values-requires : goal.sigma_values-requires
 sigma_values-requires c =
