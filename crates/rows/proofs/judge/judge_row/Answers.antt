@@ -8,10 +8,10 @@ use Rattle.rows.proofs.Judging.{unread, passes, fails-9, fails-10, fails-11}
 use Rattle.rows.proofs.judge.judge_row.Goals as goal
 
 pub values_in_range-requires : goal.values_in_range-requires
-values_in_range-requires c = rw c.one_row.ensures (c.requires.0, row-limits c.args.schema c.requires.0 c.args.table 0 c.requires.1, omega (arith, c.requires.3.for_values, c.read_row-read.auto.values.1.1.1.0))
+values_in_range-requires c = rw c.one_row.ensures (c.requires.0, row-limits c.args.schema c.requires.0 c.args.table 0 c.requires.1, omega (arith, c.requires.3.for_values, c.read_row-read.auto.values))
 
 pub obeys_equations-requires : goal.obeys_equations-requires
-obeys_equations-requires c = (c.requires.0, c.requires.1, c.requires.2, record { room = omega (arith, c.requires.3.for_links, c.read_row-read.auto.values.1.1.0); links_in = sym c.links_in_range.ensures ∙ c.if-links_in_range.true })
+obeys_equations-requires c = (c.requires.0, c.requires.1, c.requires.2, record { room = omega (arith, c.requires.3.for_links, c.read_row-read.auto.links); links_in = sym c.links_in_range.ensures ∙ c.if-links_in_range.true })
 
 pub returns-then-obeys_equations : goal.returns-then-obeys_equations
 returns-then-obeys_equations c = let a = c.args in

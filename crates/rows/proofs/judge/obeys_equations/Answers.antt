@@ -2,13 +2,12 @@
 use Prim.Native.Nat.{◌-◌}
 use mathlib.Core.Path.{◌≡◌, sym, ◌∙◌}
 use mathlib.Core.Bool.{true, false}
-use mathlib.Core.Logic.{⊎_elim}
 use native.Mathlib.Omega.{arith}
 use borrow.Author.Rules.{rules}
 use lib.ListN.{length}
 use Rattle.meaning.proofs.Tabulate.{passed_start, passed-more, passed-fail, passed-done}
 use Rattle.rows.proofs.FromRow.{left-led, right-led, equations-test, bent-here, bent-apart}
-use Rattle.rows.proofs.judge.obeys_equations.Goals.{Start}
+use Rattle.rows.proofs.judge.obeys_equations.Goals.{Start, then-wide-table+else-bent, else-wide-table}
 use Rattle.rows.proofs.judge.obeys_equations.Goals as goal
 
 counts_long : (c : Start) → length c.args.run.counts ≡ 16
@@ -47,10 +46,10 @@ loop-k-preserved c =
     let k = c.loop-k.k in
     let v = c.loop-k.invariant in
     let t = c.loop-k-test.true in
-    ⊎_elim
-    (λ w. passed-more v t (bent-here a.schema a.table a.links.now a.row_links.now c.wide-own.result k false (sym c.wide.ensures ∙ w.0.taken) (sym w.1.ensures ∙ w.2.left)))
-    (λ w. passed-more v t (bent-apart a.schema a.table a.links.now a.row_links.now c.wide-own.result k (λ e. w.left (c.wide.ensures ∙ e))))
-    c.if-wide-table.branch
+    elim c.if-wide-table.branch [
+      | then-wide-table+else-bent w ↦ passed-more v t (bent-here a.schema a.table a.links.now a.row_links.now c.wide-own.result k false (sym c.wide.ensures ∙ w.if-wide-table.true) (sym w.bent.ensures ∙ w.if-bent.false))
+      | else-wide-table w ↦ passed-more v t (bent-apart a.schema a.table a.links.now a.row_links.now c.wide-own.result k (λ e. w.if-wide-table.false (c.wide.ensures ∙ e)))
+    ]
 
 pub returns : goal.returns
 returns c = let a = c.args in sym (equations-test a.schema c.requires.0 a.run a.table c.requires.1 a.links.now a.row_links.now c.requires.2 c.requires.3 ∙ rw (← c.wide-own.ensures) (passed-done c.loop-k.invariant c.loop-k-test.false))

@@ -2,7 +2,6 @@
 use Prim.Native.Nat.{◌-◌}
 use mathlib.Core.Path.{◌≡◌, sym, ◌∙◌}
 use mathlib.Core.List.{[]}
-use mathlib.Core.Logic.{⊎_elim}
 use native.Mathlib.Omega.{arith}
 use lib.ListN.{length}
 use borrow.Author.Rules.{rules}
@@ -10,7 +9,7 @@ use Rattle.meaning.proofs.Heights.{missed-start, missed_more, missed-hit, missed
 use Rattle.instance.specs.Decoded.{Columns}
 use Rattle.instance.proofs.Decoding.{link-columns}
 use Rattle.rows.proofs.Holding.{held_test_lem, held-here, held-apart}
-use Rattle.rows.proofs.withdrawing.is_held.Goals.{Start}
+use Rattle.rows.proofs.withdrawing.is_held.Goals.{Start, then-wide-table+else-stands, else-wide-table}
 use Rattle.rows.proofs.withdrawing.is_held.Goals as goal
 
 source-long : (c : Start) → length c.args.schema.graph.source ≡ 32
@@ -50,10 +49,10 @@ loop-e-preserved c =
     let g = c.args.schema.graph in
     let v = c.loop-e.invariant in
     let t = c.loop-e-test.true in
-    ⊎_elim
-    (λ w. missed_more v t (held-here g.source g.target c.args.run.counts c.args.links.now c.args.table c.args.x c.loop-e.e (sym c.wide.ensures ∙ w.0.taken) (sym (rw w.3.ensures at w.4.ensures) ∙ w.5.left)))
-    (λ w. missed_more v t (held-apart g.source g.target c.args.run.counts c.args.links.now c.args.table c.args.x c.loop-e.e (λ e. w.left (c.wide.ensures ∙ e))))
-    c.if-wide-table.branch
+    elim c.if-wide-table.branch [
+      | then-wide-table+else-stands w ↦ missed_more v t (held-here g.source g.target c.args.run.counts c.args.links.now c.args.table c.args.x c.loop-e.e (sym c.wide.ensures ∙ w.if-wide-table.true) (sym (rw w.rows_of.ensures at w.stands.ensures) ∙ w.if-stands.false))
+      | else-wide-table w ↦ missed_more v t (held-apart g.source g.target c.args.run.counts c.args.links.now c.args.table c.args.x c.loop-e.e (λ e. w.if-wide-table.false (c.wide.ensures ∙ e)))
+    ]
 
 pub returns : goal.returns
 returns c = sym (held_test_lem c.args.schema c.args.run c.args.links.now [] c.args.table c.args.x ∙ missed-done c.loop-e.invariant c.loop-e-test.false)

@@ -1,10 +1,10 @@
 -- `rows::withdrawing::move_links_down` meets its contract.
 use Prim.Native.Nat.{◌-◌}
 use mathlib.Core.Path.{sym, ◌∙◌}
-use mathlib.Core.Logic.{⊎_elim}
 use native.Mathlib.Omega.{arith}
 use Rattle.rows.proofs.Places.{worked-none}
 use Rattle.rows.proofs.TakingOut.{moved_here, moved-past}
+use Rattle.rows.proofs.withdrawing.move_links_down.Goals.{then-wide-table, else-wide-table}
 use Rattle.rows.proofs.withdrawing.move_links_down.Goals as goal
 
 pub loop-e-init : goal.loop-e-init
@@ -35,10 +35,10 @@ loop-e-preserved c =
     let v = c.loop-e.invariant in
     let t = c.loop-e-test.true in (
       omega arith,
-      ⊎_elim
-          (λ w. rw w.6 (moved_here a.source.now a.target.now a.counts.now a.table a.x a.links.now v.1 (λ j h. C.rows j (omega (arith, h, t))) (sym c.wide.ensures ∙ w.0.taken) (rw w.2.ensures at w.3.ensures)))
-          (λ w. rw w.1 (moved-past a.source.now a.target.now a.counts.now a.table a.x a.links.now v.1 (λ j h. C.rows j (omega (arith, h, t))) (λ e. w.0.left (c.wide.ensures ∙ e))))
-          c.if-wide-table.branch,
+      elim c.if-wide-table.branch [
+        | then-wide-table w ↦ rw w.links-is (moved_here a.source.now a.target.now a.counts.now a.table a.x a.links.now v.1 (λ j h. C.rows j (omega (arith, h, t))) (sym c.wide.ensures ∙ w.if-wide-table.true) (rw w.rows_of.ensures at w.move_down.ensures))
+        | else-wide-table w ↦ rw w.links-is (moved-past a.source.now a.target.now a.counts.now a.table a.x a.links.now v.1 (λ j h. C.rows j (omega (arith, h, t))) (λ e. w.if-wide-table.false (c.wide.ensures ∙ e)))
+      ],
     )
 
 pub returns : goal.returns

@@ -1,10 +1,10 @@
 -- `rows::withdrawing::take_row_out` meets its contract.
 use Prim.Native.Nat.{◌-◌}
 use mathlib.Core.Path.{sym, ◌∙◌}
-use mathlib.Core.Logic.{⊎_elim}
 use native.Mathlib.Omega.{arith}
 use Rattle.rows.proofs.Places.{worked-none}
 use Rattle.rows.proofs.TakingOut.{taken_here, taken-past}
+use Rattle.rows.proofs.withdrawing.take_row_out.Goals.{then-wide-table, else-wide-table}
 use Rattle.rows.proofs.withdrawing.take_row_out.Goals as goal
 
 pub loop-k-init : goal.loop-k-init
@@ -35,10 +35,10 @@ loop-k-preserved c =
     let v = c.loop-k.invariant in
     let t = c.loop-k-test.true in (
       omega arith,
-      ⊎_elim
-          (λ w. let s = sym c.wide.ensures ∙ w.0.taken in rw w.6 (taken_here a.home.now a.counts.now a.table a.x a.l.now v.1 (λ j h. O.few j (omega (arith, h, t))) s (O.one_more c.loop-k.k t s) (rw w.2.ensures at w.3.ensures)))
-          (λ w. rw w.1 (taken-past a.home.now a.counts.now a.table a.x a.l.now v.1 (λ j h. O.few j (omega (arith, h, t))) (λ e. w.0.left (c.wide.ensures ∙ e))))
-          c.if-wide-table.branch,
+      elim c.if-wide-table.branch [
+        | then-wide-table w ↦ let s = sym c.wide.ensures ∙ w.if-wide-table.true in rw w.l-is (taken_here a.home.now a.counts.now a.table a.x a.l.now v.1 (λ j h. O.few j (omega (arith, h, t))) s (O.one_more c.loop-k.k t s) (rw w.rows_of.ensures at w.take_out.ensures))
+        | else-wide-table w ↦ rw w.l-is (taken-past a.home.now a.counts.now a.table a.x a.l.now v.1 (λ j h. O.few j (omega (arith, h, t))) (λ e. w.if-wide-table.false (c.wide.ensures ∙ e)))
+      ],
     )
 
 pub returns : goal.returns
