@@ -1,0 +1,12 @@
+-- `migration::migrate::sigma_of_any` meets its contract.
+use mathlib.Core.Path.{ap, ◌∙◌}
+use Rattle.meaning.specs.Calls.{Outcome, Migrated, sheet_of, in_tray}
+use Rattle.instance.proofs.Rooms.{room_for}
+use borrow.Author.Rules.{rules}
+use Rattle.migration.proofs.migrate.sigma_of_any.Goals as goal
+
+pub sigma_tables-migrated-requires : goal.sigma_tables-migrated-requires
+sigma_tables-migrated-requires c = let z = c.requires in (z, room_for z.schemas.source (search rules), room_for z.schemas.target (search rules))
+
+pub returns : goal.returns
+returns c = c.write_migrated.ensures ∙ ap (λ (o : Outcome Migrated). in_tray c.args.tray.now (sheet_of o)) c.sigma_tables-migrated.ensures.says
