@@ -9,7 +9,7 @@ use Rattle.changes.proofs.exports.changed_number.Goals.{In-Lengths}
 use Rattle.changes.proofs.exports.changed_number.Goals as goal
 
 -- the byte lengths of instance sheets
-low : (c : In-Lengths) → (c.in-Lengths.run ≤ 51220) × (c.in-Lengths.pushed ≤ 51220)
+low : (c : In-Lengths) → (c.in-Lengths.run' ≤ 51220) × (c.in-Lengths.pushed ≤ 51220)
 low c = rw c.in-Lengths.is at c.requires
 
 pub overflow_mul-result : goal.overflow_mul-result
