@@ -15,7 +15,7 @@ use Rattle.meaning.specs.Lists.{concat_map, sum_of}
 use Rattle.meaning.specs.Schema.{source, target, attribute_at, end}
 use Rattle.meaning.specs.Category.{Category}
 use Rattle.meaning.specs.Formats.{Mapping, Instance, max_rows, kinds}
-use Rattle.meaning.specs.Views.{Shaped, schema_of, node_image, mapping_of, count, link, column, value, follow, instance_of}
+use Rattle.meaning.specs.Views.{Shaped, schema_of, node_image, mapping_of, count, column, value, follow, instance_of}
 use Rattle.meaning.specs.Sigma.{fibre, rows_in, first_row, lift, links_along, attribute_over, sigma}
 use Rattle.meaning.specs.Calls.{accepted, ensure_fits}
 use Rattle.agreement.specs.Valid.{InRange, ValidMapping, ValidInstance}

@@ -1,5 +1,5 @@
 -- One step by its numbers, in a table of paths: by the columns of the table, and by the definition.
-use Rattle.std.specs.Prelude.{ℕ, zero, suc, ◌+◌, ◌-◌, ◌<◌, ◌≤◌, ◌≡◌, cond, List, ◌++◌, length, get_or, ltb, eqb}
+use Rattle.std.specs.Prelude.{ℕ, zero, suc, ◌+◌, ◌-◌, ◌≤◌, ◌≡◌, cond, List, ◌++◌, length, get_or, ltb, eqb}
 use Rattle.theory.specs.Numbering.{tabulate}
 use Rattle.meaning.specs.Schema as meaning
 use Rattle.meaning.specs.PathChain.{Step, is_step, made}

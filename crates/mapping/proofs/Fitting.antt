@@ -8,7 +8,7 @@ use lib.ListN.{get_or}
 use lib.Dec.{ltb, eqb}
 use Rattle.theory.specs.Schema.{endpoint}
 use Rattle.meaning.specs.Lists.{upto, all}
-use Rattle.meaning.specs.Schema.{source, target, joins, attribute_at}
+use Rattle.meaning.specs.Schema.{target, joins, attribute_at}
 use Rattle.meaning.specs.Judge.{edge_image_fits, attribute_image_fits, images_fit}
 use Rattle.meaning.proofs.Tabulate.{all-at, all-upto-same}
 use Rattle.schema.specs.declared.Graph.{Graph}

@@ -11,7 +11,7 @@ use borrow.Author.Tests.{ltb-true}
 use Rattle.theory.specs.Numbering.{tabulate}
 use Rattle.theory.proofs.Numbering.{tabulate-length, tabulate-get_or}
 use Rattle.meaning.specs.Lists.{upto, all}
-use Rattle.meaning.specs.Schema.{Attribute, source, target}
+use Rattle.meaning.specs.Schema.{Attribute}
 use Rattle.meaning.specs.Formats as meaning
 use Rattle.meaning.specs.Formats.{table_list}
 use Rattle.meaning.specs.Views.{count, rows, link, value}

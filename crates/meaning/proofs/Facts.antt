@@ -8,7 +8,7 @@ use lib.ListN.{length, get_or}
 use lib.Dec.{leb}
 use borrow.Author.Tests.{leb-true, not-true}
 use Rattle.meaning.specs.Lists.{sum_of}
-use Rattle.meaning.specs.Schema.{Equation, Schema, source, target, attribute_at, has_loop}
+use Rattle.meaning.specs.Schema.{Equation, Schema, attribute_at, has_loop}
 use Rattle.meaning.specs.Sheet.{sound, on_sheet}
 use Rattle.meaning.specs.Formats.{Counts, Mapping, Instance, max_nodes, max_edges, max_attributes, max_equations, max_rows, counts_in_limits, read_edges, read_path, read_counts, read_edge, read_attribute, read_equation, read_lists, read_schema, read_mapping, read_tables, read_instance, read_matching, kinds}
 use Rattle.meaning.specs.Views.{Shaped, count, link, value, node_image, edge_image, attribute_image}

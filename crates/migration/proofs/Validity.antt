@@ -16,11 +16,8 @@ use Rattle.agreement.proofs.Instances.{links-iff}
 use Rattle.agreement.specs.Valid.{ValidMapping, ValidInstance}
 use Rattle.agreement.proofs.Evenness.{even-iff}
 use Rattle.agreement.proofs.Sigma.{sigma-total, sigma-valid}
-use Rattle.schema.specs.declared.Schema.{Schema}
 use Rattle.schema.specs.Decoded.{schema_of}
-use Rattle.instance.specs.declared.Instance.{Instance}
 use Rattle.instance.specs.Decoded.{tables_of}
-use Rattle.mapping.specs.declared.Mapping.{Mapping}
 use Rattle.mapping.specs.Decoded.{mapping_of}
 use Rattle.migration.specs.declared.sides.Sides.{Sides}
 use Rattle.migration.specs.Sides.{Migratable}

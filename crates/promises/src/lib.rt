@@ -1,3 +1,2 @@
 // Every promise of the library, gathered: specs/Promises.antt. No code.
 #![tactic(auto)]
-

@@ -23,7 +23,7 @@ use Rattle.steps.proofs.Refusing.{refusal, no_refusal, judged-at, then, yields, 
 use Rattle.steps.proofs.Sizes.{stopped}
 use Rattle.instance.proofs.Validity.{accepted-valid}
 use Rattle.query.specs.declared.open.Query.{Query}
-use Rattle.query.specs.Opened.{query_of, opened_of, paired, narrow, is_even, test_number, Ready, Opens, IsOpened, Tested}
+use Rattle.query.specs.Opened.{query_of, opened_of, paired, narrow, is_even, test_number, Ready, Opens, IsOpened}
 use Rattle.query.specs.Steps.{answered, Migratable}
 use Rattle.query.proofs.Opening.{three-tested, three-passed}
 

@@ -5,7 +5,7 @@ use mathlib.Core.Bool.{true, false}
 use mathlib.Core.List.{◌∷◌}
 use native.Mathlib.Omega.{arith}
 use borrow.Author.Tests.{ne_eqb, eq-eqb, le-ltb, lt-ltb}
-use lib.ListN.{length, get_or, drop}
+use lib.ListN.{get_or, drop}
 use Rattle.theory.specs.Schema.{endpoint}
 use Rattle.meaning.specs.Schema.{target, joins}
 use Rattle.meaning.proofs.Tabulate.{rest_more, rest-done}

@@ -1,7 +1,7 @@
 -- `bits::clear` meets its contract. The invariant: the first i bytes are 0, the others as they were.
 use mathlib.Core.Path.{refl, ap, ◌∙◌}
 use mathlib.Core.List.{List, ◌++◌}
-use Prim.Native.Nat.{ℕ, ◌-◌}
+use Prim.Native.Nat.{ℕ}
 use native.Mathlib.Nat.{le_antisymm}
 use native.Mathlib.Omega.{arith}
 use lib.ListN.{set, drop, replicate, length-set}

@@ -1,5 +1,4 @@
 -- `delta::delta_links` meets its contract.
-use Prim.Native.Nat.{◌-◌}
 use native.Mathlib.Omega.{arith}
 use Rattle.instance.proofs.Storing.{columns-none, columns-more, columns-done}
 use Rattle.delta.proofs.delta_links.Goals as goal

@@ -1,5 +1,4 @@
 -- `delta::delta_values` meets its contract.
-use Prim.Native.Nat.{◌-◌}
 use native.Mathlib.Omega.{arith}
 use Rattle.instance.proofs.Storing.{copied-stored, columns-none, columns-more, columns-done}
 use Rattle.delta.proofs.delta_values.Goals as goal

@@ -1,6 +1,5 @@
 -- `instance::tested` meets its contract.
 use mathlib.Core.Path.{sym, ◌∙◌}
-use Rattle.meaning.specs.Formats.{kinds}
 use Rattle.instance.proofs.Judging.{passes, fails-9, fails-10, fails-11}
 use Rattle.instance.proofs.tested.Goals as goal
 

@@ -1,6 +1,5 @@
 -- `sigma::sigma` meets its contract.
 use borrow.Author.Rules.{rules}
-use mathlib.Core.Path.{sym}
 use Rattle.sigma.proofs.Pushing.{all-lead, all-over, counts_are, links-are, values-are, pushed}
 use Rattle.sigma.proofs.sigma.Goals.{After-lifts-1}
 use Rattle.sigma.proofs.sigma.Goals as goal

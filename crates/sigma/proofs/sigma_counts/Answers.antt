@@ -1,5 +1,5 @@
 -- `sigma::sigma_counts` meets its contract.
-use Prim.Native.Nat.{◌-◌, ◌≤◌}
+use Prim.Native.Nat.{◌≤◌}
 use mathlib.Core.Path.{refl}
 use native.Mathlib.Omega.{arith}
 use Rattle.instance.proofs.Storing.{counts-none, counts-more, counts-done}

@@ -1,5 +1,4 @@
 -- `sigma::sigma_links` meets its contract.
-use Prim.Native.Nat.{◌-◌}
 use native.Mathlib.Omega.{arith}
 use Rattle.sigma.proofs.Joining.{columns-none, columns-more, columns-done}
 use Rattle.sigma.proofs.sigma_links.Goals as goal

@@ -1,5 +1,4 @@
 -- `sigma::sigma_values` meets its contract.
-use Prim.Native.Nat.{◌-◌}
 use native.Mathlib.Omega.{arith}
 use Rattle.sigma.proofs.Joining.{columns-none, columns-more, columns-done}
 use Rattle.sigma.proofs.sigma_values.Goals as goal

@@ -1,5 +1,5 @@
 -- `chain::levels::find_distances` meets its contract. The invariant: each path up to level k has its distance, and no other is of a level.
-use Prim.Native.Nat.{◌-◌, ◌<◌}
+use Prim.Native.Nat.{◌<◌}
 use mathlib.Core.Path.{sym, ◌∙◌}
 use native.Mathlib.Omega.{arith}
 use native.Mathlib.Numerals.{add-one}

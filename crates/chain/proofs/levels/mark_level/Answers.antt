@@ -1,5 +1,4 @@
 -- `chain::levels::mark_level` meets its contract. The invariant: the paths below x are looked at.
-use Prim.Native.Nat.{◌-◌}
 use native.Mathlib.Omega.{arith}
 use Rattle.chain.proofs.Marking.{levelled-start, levelled-of, levelled-other, levelled-done}
 use Rattle.chain.proofs.levels.mark_level.Goals as goal

@@ -1,5 +1,4 @@
 -- `chain::levels::mark_places` meets its contract. The invariant: the first b landings are marked.
-use Prim.Native.Nat.{◌-◌}
 use native.Mathlib.Omega.{arith}
 use Rattle.chain.proofs.Marking.{places-start, places-more, places-done}
 use Rattle.chain.proofs.levels.mark_places.Goals as goal

@@ -1,5 +1,4 @@
 -- `chain::levels::mark_steps` meets its contract. The invariant: what steps of the first q equations make is marked.
-use Prim.Native.Nat.{◌-◌}
 use native.Mathlib.Omega.{arith}
 use Rattle.chain.proofs.StepPlaces.{length-low}
 use Rattle.chain.proofs.Marking.{turns-start}

@@ -1,5 +1,4 @@
 -- `chain::nearer::nearer_place` meets its contract. The invariant: no place before b has a landing k steps away.
-use Prim.Native.Nat.{◌-◌}
 use mathlib.Core.Path.{sym, ◌∙◌}
 use native.Mathlib.Omega.{arith}
 use Rattle.chain.proofs.LeastSteps.{none-before-start, none-before-more, place_found, no_place}

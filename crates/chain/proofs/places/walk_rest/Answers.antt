@@ -1,5 +1,4 @@
 -- `chain::places::walk_rest` meets its contract.
-use Prim.Native.Nat.{◌-◌}
 use native.Mathlib.Omega.{arith}
 use Rattle.chain.proofs.Collecting.{walking_start, walking-in, walking-more, walking-done}
 use Rattle.chain.proofs.places.walk_rest.Goals as goal

@@ -1,6 +1,5 @@
 -- `changes::tables::withdraw` meets its contract.
 use mathlib.Core.Path.{sym, ◌∙◌}
-use mathlib.Core.Logic.{⊎_elim}
 use native.Mathlib.Omega.{arith}
 use Rattle.changes.proofs.Changing.{withdraw-absent, withdraw-held, withdraw-made}
 use Rattle.changes.proofs.tables.withdraw.Goals.{then-table-schema+else-x-wide, else-table-schema}

@@ -1,5 +1,4 @@
 -- `encoding::paths::widened` meets its contract. The invariant: the first i edges are taken over.
-use Prim.Native.Nat.{◌-◌}
 use mathlib.Core.Path.{refl}
 use native.Mathlib.Omega.{arith}
 use Rattle.instance.proofs.Storing.{counts-none, counts-more, counts-done}

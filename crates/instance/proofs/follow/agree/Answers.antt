@@ -1,9 +1,7 @@
 -- `instance::follow::agree` meets its contract.
-use Prim.Native.Nat.{◌-◌}
 use mathlib.Core.Path.{sym}
 use native.Mathlib.Omega.{arith}
 use borrow.Author.Tests.{eq-eqb, ne_eqb}
-use Rattle.theory.specs.Instance.{follow}
 use Rattle.meaning.proofs.Tabulate.{passed_start, passed-more, passed-fail, passed-done}
 use Rattle.instance.proofs.follow.agree.Goals as goal
 

@@ -1,5 +1,4 @@
 -- `instance::range::columns_below` meets its contract.
-use Prim.Native.Nat.{◌-◌}
 use mathlib.Core.Path.{sym, ◌∙◌}
 use native.Mathlib.Omega.{arith}
 use Rattle.meaning.proofs.Tabulate.{passed_start, passed-more, passed-fail, passed-done}

@@ -7,7 +7,7 @@ use Rattle.meaning.specs.Lists.{sum_of}
 use Rattle.schema.specs.Decoded.{front_of}
 use Rattle.instance.specs.declared.tables.Table.{Table}
 use Rattle.instance.specs.Tables.{no_table}
-use Rattle.instance.proofs.TableList.{table_at, laid}
+use Rattle.instance.proofs.TableList.{table_at}
 use Rattle.instance.proofs.tables.table_list.Given as goal
 
 -- the first c tables are laid out, and the next begins at row first

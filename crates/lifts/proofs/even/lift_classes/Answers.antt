@@ -1,5 +1,4 @@
 -- `lifts::even::lift_classes` meets its contract.
-use Prim.Native.Nat.{◌-◌}
 use mathlib.Core.Path.{◌≡◌, refl, sym, ◌∙◌}
 use native.Mathlib.Omega.{arith}
 use Rattle.lifts.proofs.Lifting.{lifts-more, lifts-skip}

@@ -1,5 +1,4 @@
 -- `mapping::edges::path_edges` meets its contract.
-use Prim.Native.Nat.{◌-◌}
 use mathlib.Core.Path.{refl, ap, ◌∙◌}
 use native.Mathlib.Omega.{arith}
 use Rattle.mapping.specs.PathEdges.{edges_back}

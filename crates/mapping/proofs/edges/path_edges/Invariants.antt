@@ -1,5 +1,4 @@
 -- `mapping::edges::path_edges` meets its contract.
-use Prim.Native.Nat.{◌-◌}
 use Rattle.mapping.proofs.PathEdges.{Walked}
 use Rattle.mapping.proofs.edges.path_edges.Given as goal
 

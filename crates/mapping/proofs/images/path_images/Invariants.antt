@@ -1,9 +1,6 @@
 -- `mapping::images::path_images` meets its contract. The invariant: the first i numbers are those of the images.
 use Prim.Native.Nat.{ℕ, ◌-◌, ◌≤◌}
-use Rattle.schema.specs.Decoded.{schema_of}
 use Rattle.paths.specs.Table.{Filled}
-use Rattle.mapping.specs.Decoded.{mapping_of}
-use Rattle.mapping.specs.Judged.{image_number}
 use Rattle.mapping.proofs.ImageTable.{Numbered}
 use Rattle.mapping.proofs.images.path_images.Given as goal
 

@@ -1,5 +1,4 @@
 -- `mapping::images::sides_agree` meets its contract, equation by equation.
-use Prim.Native.Nat.{◌-◌}
 use mathlib.Core.Path.{◌≡◌, sym, ◌∙◌}
 use lib.ListN.{get_or}
 use Rattle.meaning.proofs.Tabulate.{passed_start, passed-more, passed-fail, passed-done}

@@ -1,5 +1,4 @@
 -- `matching::turning::copy_tables` meets its contract.
-use Prim.Native.Nat.{◌-◌}
 use mathlib.Core.Path.{refl, ◌∙◌}
 use native.Mathlib.Omega.{arith}
 use Rattle.matching.proofs.Copying.{moved_none, moved_more}

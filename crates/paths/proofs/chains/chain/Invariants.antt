@@ -1,5 +1,4 @@
 -- `paths::chains::chain` meets its contract. The invariant: the places from i on are chained.
-use Prim.Native.Nat.{◌-◌}
 use lib.ListN.{length}
 use Rattle.paths.proofs.Chaining.{Chaining}
 use Rattle.paths.proofs.chains.chain.Given as goal

@@ -1,5 +1,4 @@
 -- `paths::classes::class_numbers` meets its contract. The invariant: the pairs of the first q equations are joined.
-use Prim.Native.Nat.{◌-◌}
 use mathlib.Core.Path.{refl, ap, ◌∙◌}
 use native.Mathlib.Omega.{arith}
 use Rattle.paths.specs.Classes.{join_numbers, schema_pairs}

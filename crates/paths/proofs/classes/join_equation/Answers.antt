@@ -1,5 +1,5 @@
 -- `paths::classes::join_equation` meets its contract. The invariant: the pairs behind the first u paths are joined, and path u ends at the equation's start.
-use Prim.Native.Nat.{ℕ, ◌+◌, ◌-◌, ◌<◌}
+use Prim.Native.Nat.{ℕ, ◌+◌, ◌<◌}
 use mathlib.Core.Path.{sym, subst, ap, ◌∙◌}
 use mathlib.Core.List.{List}
 use native.Mathlib.Omega.{arith}
@@ -7,7 +7,6 @@ use borrow.Author.Tests.{eq-eqb, ne_eqb}
 use lib.ListN.{get_or}
 use Rattle.paths.specs.Chains.{NextAt, Chained}
 use Rattle.paths.proofs.Joining.{turns-start, turns_more, turns_next, turns-done}
-use Rattle.paths.proofs.classes.join_equation.Invariants.{table}
 use Rattle.paths.proofs.classes.join_equation.Goals.{After-index-u, After-index-u-in-loop-u, In-loop-u}
 use Rattle.paths.proofs.classes.join_equation.Goals as goal
 

@@ -1,10 +1,10 @@
 -- `paths::classes::join_equation` meets its contract. The invariant: the pairs behind the first u paths are joined, and path u ends at the equation's start.
 use Prim.Native.Nat.{ℕ, ◌-◌, ◌<◌}
-use mathlib.Core.Path.{◌≡◌, sym, ap, ◌∙◌, subst}
+use mathlib.Core.Path.{◌≡◌}
 use mathlib.Core.List.{List, []}
 use lib.ListN.{get_or}
 use Rattle.paths.specs.declared.Paths.{Paths}
-use Rattle.paths.specs.Chains.{NextAt, Chained}
+use Rattle.paths.specs.Chains.{Chained}
 use Rattle.paths.specs.Classes.{pairs_at}
 use Rattle.paths.proofs.Joining.{Turns}
 use Rattle.paths.proofs.classes.join_equation.Given as goal

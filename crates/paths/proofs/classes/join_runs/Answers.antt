@@ -1,5 +1,4 @@
 -- `paths::classes::join_runs` meets its contract. The invariant: j pairs are joined.
-use Prim.Native.Nat.{◌-◌}
 use mathlib.Core.Path.{sym}
 use native.Mathlib.Omega.{arith}
 use Rattle.paths.proofs.Joining.{join-same, run-start, run_more, run-done}

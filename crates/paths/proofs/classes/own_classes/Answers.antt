@@ -1,5 +1,5 @@
 -- `paths::classes::own_classes` meets its contract. The invariant: the first i numbers are written.
-use Prim.Native.Nat.{ℕ, ◌-◌}
+use Prim.Native.Nat.{ℕ}
 use mathlib.Core.Path.{◌≡◌, refl, subst}
 use native.Mathlib.Omega.{arith}
 use Rattle.paths.specs.Table.{Filled}

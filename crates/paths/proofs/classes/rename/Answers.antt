@@ -1,5 +1,4 @@
 -- `paths::classes::rename` meets its contract. The invariant: the first i numbers are renamed.
-use Prim.Native.Nat.{◌-◌}
 use mathlib.Core.Path.{◌∙◌}
 use native.Mathlib.Omega.{arith}
 use lib.ListN.{length-set}

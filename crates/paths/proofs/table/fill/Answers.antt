@@ -5,7 +5,7 @@ use native.Mathlib.Omega.{arith}
 use borrow.Author.Rules.{rules}
 use borrow.Author.Tests.{leb-true}
 use lib.ListN.{length, get_or}
-use Rattle.meaning.specs.Schema.{Graph, source}
+use Rattle.meaning.specs.Schema.{source}
 use Rattle.agreement.specs.Paths.{path_count}
 use Rattle.schema.specs.Decoded.{graph_of}
 use Rattle.schema.specs.Counted.{Fit}

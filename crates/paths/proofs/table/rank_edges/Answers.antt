@@ -1,5 +1,5 @@
 -- `paths::table::rank_edges` meets its contract. The invariant: the first e edges have their ranks, and each node the number of those that leave it.
-use Prim.Native.Nat.{◌-◌, ◌≤◌, ◌<◌}
+use Prim.Native.Nat.{◌≤◌, ◌<◌}
 use mathlib.Core.Path.{◌≡◌}
 use native.Mathlib.Omega.{arith}
 use lib.ListN.{length, get_or}

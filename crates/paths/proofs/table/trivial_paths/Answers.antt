@@ -1,5 +1,5 @@
 -- `paths::table::trivial_paths` meets its contract. The invariant: the first n numbers are written.
-use Prim.Native.Nat.{ℕ, ◌-◌}
+use Prim.Native.Nat.{ℕ}
 use mathlib.Core.Path.{◌≡◌, refl}
 use native.Mathlib.Omega.{arith}
 use lib.ListN.{replicate, get_or-replicate, length-replicate}

@@ -1,5 +1,5 @@
 -- `paths::walk::walk` meets its contract. The invariant: from path x on, the edges from i on lead to the same number.
-use Prim.Native.Nat.{ℕ, ◌+◌, ◌-◌}
+use Prim.Native.Nat.{ℕ, ◌+◌}
 use mathlib.Core.Path.{◌≡◌, refl, sym, ap, ◌∙◌, subst}
 use mathlib.Core.List.{◌∷◌}
 use native.Mathlib.Omega.{arith}

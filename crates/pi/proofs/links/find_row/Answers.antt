@@ -1,5 +1,5 @@
 -- `pi::links::find_row` meets its contract.
-use Prim.Native.Nat.{ℕ, ◌+◌, ◌-◌, ◌/◌, ◌≤◌, ◌<◌}
+use Prim.Native.Nat.{ℕ, ◌+◌, ◌/◌, ◌≤◌, ◌<◌}
 use native.Mathlib.Omega.{arith}
 use Rattle.pi.proofs.Bisecting.{bisected-start, bisected-low, bisected-high, bisected-hit, bisected-done}
 use Rattle.schema.specs.Decoded.{front_of}

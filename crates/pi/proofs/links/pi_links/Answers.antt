@@ -1,5 +1,4 @@
 -- `pi::links::pi_links` meets its contract.
-use Prim.Native.Nat.{◌-◌}
 use mathlib.Core.Path.{◌≡◌, ap, ◌∙◌}
 use native.Mathlib.Omega.{arith}
 use Rattle.instance.proofs.Storing.{columns-none, columns-more, columns-done}

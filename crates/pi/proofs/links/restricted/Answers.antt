@@ -1,5 +1,4 @@
 -- `pi::links::restricted` meets its contract.
-use Prim.Native.Nat.{◌-◌}
 use native.Mathlib.Omega.{arith}
 use Rattle.paths.proofs.Filling.{filled-start, filled_more}
 use Rattle.pi.proofs.Rows.{filled-done}

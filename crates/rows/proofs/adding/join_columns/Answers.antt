@@ -1,5 +1,4 @@
 -- `rows::adding::join_columns` meets its contract.
-use Prim.Native.Nat.{◌-◌}
 use native.Mathlib.Omega.{arith}
 use Rattle.instance.specs.Decoded.{rows_of}
 use Rattle.rows.proofs.Places.{worked-none}

@@ -1,5 +1,4 @@
 -- `rows::withdrawing::move_down` meets its contract.
-use Prim.Native.Nat.{◌-◌}
 use native.Mathlib.Omega.{arith}
 use borrow.Author.Rules.{rules}
 use Rattle.rows.proofs.Places.{moving-none, moving-more, moving-done}

@@ -1,5 +1,4 @@
 -- `rows::withdrawing::move_links_down` meets its contract.
-use Prim.Native.Nat.{◌-◌}
 use mathlib.Core.Path.{sym, ◌∙◌}
 use native.Mathlib.Omega.{arith}
 use Rattle.rows.proofs.Places.{worked-none}

@@ -1,5 +1,4 @@
 -- `schema::count::count_paths` meets its contract. The invariant: the paths of fewer than k edges are counted, and those of k edges tallied.
-use Prim.Native.Nat.{◌-◌}
 use mathlib.Core.Path.{◌∙◌}
 use native.Mathlib.Omega.{arith}
 use Rattle.schema.proofs.Tallies.{blank-start, levels-start, levels-few, levels-more, levels-paths, levels-looped, stopped-paths, stopped-looped}

@@ -1,5 +1,4 @@
 -- `schema::count::first_row` meets its contract. The invariant: the first n nodes have their trivial path, and nothing else is counted.
-use Prim.Native.Nat.{◌-◌}
 use mathlib.Core.Path.{◌≡◌}
 use native.Mathlib.Omega.{arith}
 use borrow.Author.Count.{below_none}

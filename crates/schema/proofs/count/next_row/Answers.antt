@@ -1,5 +1,5 @@
 -- `schema::count::next_row` meets its contract. The invariant: the first e edges have handed their targets' numbers on.
-use Prim.Native.Nat.{◌-◌, ◌<◌}
+use Prim.Native.Nat.{◌<◌}
 use mathlib.Core.Path.{◌≡◌, ◌∙◌}
 use native.Mathlib.Omega.{arith}
 use lib.ListN.{get_or}

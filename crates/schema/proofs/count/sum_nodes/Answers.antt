@@ -1,5 +1,4 @@
 -- `schema::count::sum_nodes` meets its contract. The invariant: the numbers of the first n nodes are summed.
-use Prim.Native.Nat.{◌-◌}
 use mathlib.Core.Path.{◌≡◌, refl, ◌∙◌}
 use native.Mathlib.Omega.{arith}
 use Rattle.meaning.proofs.PathCounts.{total-more}

@@ -1,5 +1,4 @@
 -- `schema::heights::has_loop` meets its contract. The invariant: from no node before n can as many edges be followed as there are nodes.
-use Prim.Native.Nat.{◌-◌}
 use mathlib.Core.Path.{◌≡◌, sym, ◌∙◌}
 use native.Mathlib.Omega.{arith}
 use borrow.Author.Tests.{eq-eqb, ne_eqb}

@@ -1,5 +1,4 @@
 -- `schema::well_formed::attributes_fit` meets its contract. The invariant: the first i attributes fit.
-use Prim.Native.Nat.{◌-◌}
 use mathlib.Core.Path.{sym}
 use native.Mathlib.Omega.{arith}
 use borrow.Author.Tests.{lt-ltb, le-ltb}

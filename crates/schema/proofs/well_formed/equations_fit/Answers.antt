@@ -1,8 +1,6 @@
 -- `schema::well_formed::equations_fit` meets its contract. The invariant: the first i equations fit.
-use Prim.Native.Nat.{◌-◌}
 use mathlib.Core.Path.{sym, ◌∙◌}
 use native.Mathlib.Omega.{arith}
-use Rattle.meaning.specs.Judge.{equation_fits}
 use Rattle.meaning.proofs.Tabulate.{passed_start, passed-more, passed-fail, passed-done}
 use Rattle.schema.proofs.well_formed.equations_fit.Goals as goal
 

@@ -1,5 +1,4 @@
 -- `schema::well_formed::follow` meets its contract. The invariant: i edges are followed, and lead to node.
-use Prim.Native.Nat.{◌-◌}
 use mathlib.Core.Path.{sym}
 use native.Mathlib.Omega.{arith}
 use borrow.Author.Tests.{lt-ltb, le-ltb}

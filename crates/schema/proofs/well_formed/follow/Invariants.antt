@@ -1,6 +1,5 @@
 -- `schema::well_formed::follow` meets its contract. The invariant: i edges are followed, and lead to node.
 use Prim.Native.Nat.{◌-◌}
-use lib.ListN.{length}
 use Rattle.schema.proofs.Following.{Gone}
 use Rattle.schema.proofs.well_formed.follow.Given as goal
 

@@ -1,5 +1,4 @@
 -- `sigma::columns::lift_rows` meets its contract.
-use Prim.Native.Nat.{◌-◌}
 use native.Mathlib.Omega.{arith}
 use Rattle.sigma.proofs.Lifting.{end_row, leads-at, stored-lift}
 use Rattle.sigma.proofs.columns.lift_rows.Goals as goal

@@ -1,5 +1,4 @@
 -- `text::framing::nth_part` meets its contract: after each turn one more sheet is passed.
-use Prim.Native.Nat.{◌-◌}
 use native.Mathlib.Omega.{arith}
 use Rattle.text.proofs.SheetParts.{begins, ends_next, nth-found}
 use Rattle.text.proofs.framing.nth_part.Goals as goal

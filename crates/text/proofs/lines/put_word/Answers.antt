@@ -1,5 +1,4 @@
 -- `text::lines::put_word` meets its contract. The invariant: the bytes from i on are still to be written.
-use Prim.Native.Nat.{◌-◌}
 use native.Mathlib.Omega.{arith}
 use Rattle.text.proofs.Appending.{unwritten-start, byte-room, byte_step, word-done}
 use Rattle.text.proofs.lines.put_word.Goals as goal

@@ -1,5 +1,4 @@
 -- `text::rows::put_table` meets its contract. The invariant: the first r rows are written.
-use Prim.Native.Nat.{◌-◌}
 use native.Mathlib.Omega.{arith}
 use Rattle.text.specs.Rows.{table_text}
 use Rattle.text.proofs.Series.{series-start, series-room, series-step, series-done}

@@ -1,5 +1,4 @@
 -- `text::rows::put_tables` meets its contract. The invariant: the first d tables are written.
-use Prim.Native.Nat.{◌-◌}
 use native.Mathlib.Omega.{arith}
 use Rattle.text.specs.Rows.{tables_text}
 use Rattle.text.proofs.Series.{series-start, series-room, series-step, series-done}
