@@ -4,9 +4,10 @@
 
 mod calls;
 
-ghost use Rattle.std.specs.Prelude.{◌+◌, ◌≤◌, ◌<◌, length};
+ghost use Rattle.std.specs.Prelude.{◌≡◌, ◌+◌, ◌≤◌, ◌<◌, length, IfOk};
 
 use calls::{answer, changed, is_change};
+use std::io;
 use text::framing::{bytes_of, sheet_at};
 
 // The checksum's modulus.
@@ -95,6 +96,7 @@ fn number_at(input: &[u8], at: usize) -> usize
 
 // Makes a call, and prints its answer and the checksum of the tray on a line; a change is made and printed with both its trays.
 fn put_answer<'a>(
+    rt: &impl Print,
     call: u8,
     s: &'a [u8],
     t: &'a [u8],
@@ -105,19 +107,18 @@ fn put_answer<'a>(
     l: &'a [u8],
     m: &'a [u8],
     tray: &mut [u8],
-) {
+) -> io::Result<()> {
     if is_change(call) {
-        make_change(call, s, t, f, i, j, k, l, m, &mut *tray);
-        return;
+        return make_change(rt, call, s, t, f, i, j, k, l, m, &mut *tray);
     }
-    io::print_decimal(1, answer(call, s, t, f, i, j, k, l, m, &mut *tray));
-    io::write_all(1, b" ");
-    io::print_decimal(1, checksum(&*tray));
-    io::write_all(1, b"\n");
+    let answer = answer(call, s, t, f, i, j, k, l, m, &mut *tray);
+    let sum = checksum(&*tray);
+    println!(rt; "{answer} {sum}")
 }
 
 // Makes a change, and prints its answer, the checksum of the pushed tray and that of the run's tray on a line.
 fn put_change<'a>(
+    rt: &impl Print,
     call: u8,
     s: &'a [u8],
     t: &'a [u8],
@@ -128,7 +129,7 @@ fn put_change<'a>(
     added: &'a [u8],
     withdrawn: u64,
     pushed: &mut [u8],
-) {
+) -> io::Result<()> {
     let answer = changed(
         call,
         s,
@@ -141,16 +142,14 @@ fn put_change<'a>(
         withdrawn,
         &mut *pushed,
     );
-    io::print_decimal(1, answer);
-    io::write_all(1, b" ");
-    io::print_decimal(1, checksum(&*pushed));
-    io::write_all(1, b" ");
-    io::print_decimal(1, checksum(&*run));
-    io::write_all(1, b"\n");
+    let pushed_sum = checksum(&*pushed);
+    let run_sum = checksum(&*run);
+    println!(rt; "{answer} {pushed_sum} {run_sum}")
 }
 
 // Makes the change of a record, in a copy of the run's tray, and prints it.
 fn make_change<'a>(
+    rt: &impl Print,
     call: u8,
     s: &'a [u8],
     t: &'a [u8],
@@ -161,11 +160,12 @@ fn make_change<'a>(
     table: &'a [u8],
     withdrawn: &'a [u8],
     pushed: &mut [u8],
-) {
+) -> io::Result<()> {
     let mut run = [UNWRITTEN; TRAY];
     let n = fewer(lent, &run);
     copy(lent, n, &mut run);
     put_change(
+        rt,
         call,
         s,
         t,
@@ -176,7 +176,7 @@ fn make_change<'a>(
         added,
         number_of(withdrawn),
         &mut *pushed,
-    );
+    )
 }
 
 // Where a number ends.
@@ -188,9 +188,9 @@ fn after(input: &[u8], at: usize) -> usize
 }
 
 // Makes the call of the record at a position; gives where the next one stands.
-fn make_call(input: &[u8], at: usize) -> usize
+fn make_call(rt: &impl Print, input: &[u8], at: usize) -> io::Result<usize>
     requires { at < length input.now }
-    ensures { at < result }
+    ensures { IfOk result (λ next. at < next) }
 {
     let a = sheet_at(input, at + 1);
     let b = sheet_at(input, a.end);
@@ -202,11 +202,12 @@ fn make_call(input: &[u8], at: usize) -> usize
     let h = sheet_at(input, g.end);
     let last = h.end;
     if input.len() - last < 2 {
-        return input.len();
+        return Ok(input.len());
     }
     let room = number_at(input, last);
     let mut tray = [UNWRITTEN; TRAY];
     put_answer(
+        rt,
         input[at],
         bytes_of(input, a),
         bytes_of(input, b),
@@ -217,21 +218,30 @@ fn make_call(input: &[u8], at: usize) -> usize
         bytes_of(input, g),
         bytes_of(input, h),
         &mut tray[..room],
-    );
-    after(input, last)
+    )?;
+    Ok(after(input, last))
 }
 
 // Makes the call of each record.
-fn make_calls(input: &[u8]) {
+fn make_calls(rt: &impl Print, input: &[u8]) -> io::Result<()> {
     let n = input.len();
     let mut at = 0;
     while at < n {
-        at = make_call(input, at);
+        at = make_call(rt, input, at)?;
     }
+    Ok(())
 }
 
-fn main() {
-    let mut input = [0u8; INPUT];
-    let n = io::read_full(0, &mut input);
-    make_calls(&input[..n]);
+// The input before it is read.
+fn unread() -> [u8; INPUT]
+    ensures { 655360 ≡ length result }
+{
+    [0; INPUT]
+}
+
+fn main(rt: HostRuntime) -> io::Result<()> {
+    let mut input = unread();
+    let mut stdin = rt.stdin();
+    let n = input::read_full(&mut stdin, &mut input)?;
+    make_calls(&rt, &input[..n])
 }

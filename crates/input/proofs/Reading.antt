@@ -1,33 +1,71 @@
 -- Laws of reading: a byte length, the sheet after it, and sheets one after the other.
 use Prim.Native.Nat.{ℕ, ◌+◌, ◌-◌, ◌*◌, ◌≤◌, ◌<◌}
 use mathlib.Core.Path.{◌≡◌, refl, sym, ap, subst, ◌∙◌}
-use mathlib.Core.Bool.{true, false}
+use mathlib.Core.Bool.{Bool, false}
 use mathlib.Core.List.{List, [], ◌∷◌, ◌++◌}
 use native.Mathlib.Omega.{arith}
 use lib.Dec.{ltb}
 use lib.ListN.{length, take, drop, get_or, length-drop}
-use lib.Seq.{take-nil, take_all, take-add, take-take, length-take-le, get_or-take}
+use lib.Seq.{drop-drop, take-nil, take_all, take-add, take-take, take-append-le, drop_at, length-take-le, get_or-take}
 use borrow.Author.Tests.{ltb-false}
-use Rattle.io.proofs.Counting.{prefix_len_of_le}
+use borrow.Rule.Slice.PartMut.{put_mid, post_of}
+use Rattle.std.specs.Io.KnownBytes.{Consumes}
+use Rattle.std.proofs.KnownBytes.{Consumes-trans}
+use Rattle.std.proofs.lemmas.Slice.{take-put_mid_below}
+use Rattle.std.proofs.lemmas.List.{drop-take}
+use Rattle.std.specs.Prelude.{Option}
 use Rattle.meaning.specs.Program.{announced, frames}
-use Rattle.meaning.proofs.Lists.{no_bool}
 use Rattle.agreement.proofs.Framing.{Whole, whole-none, whole-next, whole-last, whole_all}
 use Rattle.text.specs.Framed.{max_sheet_bytes, max_frame_bytes, LengthFound}
 use Rattle.text.proofs.SheetParts.{length_some}
 use Rattle.input.specs.declared.Frame.{Frame}
-use Rattle.input.specs.Read.{read_to, FrameRead, SheetsRead}
+use Rattle.input.specs.Read.{IsPrefixLen, read_to, FrameRead, SheetsRead}
+
+prefix_len_of_le : (n : ℕ) (xs : List ℕ) → n ≤ length xs → IsPrefixLen n xs
+prefix_len_of_le n xs h = (h, sym (length-take-le n xs h))
+
+-- ---- bytes read behind others
+
+-- n bytes of a part that was read to
+read_there : (at k n : ℕ) (into part : List ℕ) → at ≤ length into → n ≤ length part → take n (drop at (put_mid at k into part)) ≡ take n part
+read_there at k n into part within fits =
+    let after = post_of at k into in
+    ap (take n) (drop_at (take at into) (part ++ after) at (length-take-le at into within)) ∙ take-append-le n part after fits
+
+read_behind : (at k n : ℕ) (into part : List ℕ) → at ≤ length into → n ≤ length part → take (at + n) (put_mid at k into part) ≡ take at into ++ take n part
+read_behind at k n into part within fits =
+    let new = put_mid at k into part in
+    let front : take at new ≡ take at into = take-put_mid_below at k into part at (omega arith) within in
+    take-add at n new ∙ ap (◌++ take n (drop at new)) front ∙ ap (take at into ++◌) (read_there at k n into part within fits)
+
+pub consumed_behind : (a b c : Option (List ℕ)) (at k n : ℕ) (into part : List ℕ) → at ≤ length into → n ≤ length part → Consumes a b (take at into) → Consumes b c (take n part) → Consumes a c (take (at + n) (put_mid at k into part))
+consumed_behind a b c at k n into part within fits before now =
+    subst (Consumes a c) (sym (read_behind at k n into part within fits)) (Consumes-trans a b c _ _ before now)
+
+-- two bytes, and behind them others
+two_and_more : (at k m got : ℕ) (old two part : List ℕ) → at + 2 ≤ length old → length two ≡ 2 → length (put_mid at k old two) ≡ length old → got ≤ length part
+    → take (2 + got) (drop at (put_mid (at + 2) m (put_mid at k old two) part)) ≡ take 2 two ++ take got part
+two_and_more at k m got old two part within size kept fits =
+    let first = put_mid at k old two in
+    let new = put_mid (at + 2) m first part in
+    let inside : at + 2 ≤ length first = omega arith in
+    let front : take 2 (drop at new) ≡ take 2 two =
+    sym (drop-take at 2 new) ∙ ap (drop at) (take-put_mid_below (at + 2) m first part (at + 2) (omega arith) inside) ∙ drop-take at 2 first ∙ read_there at k 2 old two (omega arith) (omega arith) in
+    let back : take got (drop 2 (drop at new)) ≡ take got part = ap (take got) (drop-drop 2 at new) ∙ read_there (at + 2) m got first part inside fits in
+    take-add 2 got (drop at new) ∙ ap (◌++ take got (drop 2 (drop at new))) front ∙ ap (take 2 two ++◌) back
+
+pub frame_consumed : (a b c : Option (List ℕ)) (at k m n got : ℕ) (old two part : List ℕ) (ended : Bool) → at + 2 ≤ length old → length two ≡ 2 → length (put_mid at k old two) ≡ length old → n ≤ 2
+    → 2 ≤ n → got ≤ length part → Consumes a b (take n two) → Consumes b c (take got part)
+    → Consumes a c (read_to (put_mid (at + 2) m (put_mid at k old two) part) at (record { end = at + 2 + got; ended = ended }))
+frame_consumed a b c at k m n got old two part ended within size kept few enough fits before now =
+    let new = put_mid (at + 2) m (put_mid at k old two) part in
+    let n_is : n ≡ 2 = omega arith in
+    let count : at + 2 + got - at ≡ 2 + got = omega arith in
+    let read : take (at + 2 + got - at) (drop at new) ≡ take n two ++ take got part =
+    ap (λ i. take i (drop at new)) count ∙ two_and_more at k m got old two part within size kept fits ∙ ap (λ i. take i two ++ take got part) (sym n_is) in
+    subst (Consumes a c) (sym read) (Consumes-trans a b c _ _ before now)
 
 -- ---- a byte length, and the sheet after it
-
--- the input ended within the byte length
-pub frame-none : {old new : List ℕ} {at got : ℕ} → take at new ≡ take at old → got < 2 → FrameRead old at (record { end = at + got; ended = true }) new
-frame-none kept h = record {
-  before = kept;
-  onward = omega arith;
-  within = omega arith;
-  no_more = omega arith;
-  whole = λ e. absurd (no_bool e);
-}
 
 -- a byte length is that of its two bytes
 announced-two : (m : ℕ) (l : List ℕ) → announced (take (2 + m) l) ≡ announced l
@@ -78,7 +116,7 @@ module _ {n : ℕ} {old into new : List ℕ} {at i : ℕ} {r : Frame} (S : ReadS
   size : length (read_to new at r) ≡ r.end - at
   size = length-take-le (r.end - at) (drop at new) (let h = inside in omega (arith, length-drop at new))
 
-  joined : take r.end new ≡ take at into ++ read_to new at r
+  pub joined : take r.end new ≡ take at into ++ read_to new at r
   joined =
       let e : r.end ≡ at + (r.end - at) = let h = F.onward in omega arith in
       ap (λ (m : ℕ). take m new) e ∙ take-add at (r.end - at) new ∙ ap (◌++ read_to new at r) F.before

@@ -1,9 +1,12 @@
 -- What has been read: sheets with their byte lengths, and no byte after them.
-use Rattle.std.specs.Prelude.{ℕ, ◌+◌, ◌-◌, ◌≤◌, ◌≡◌, false, List, take, drop}
-use Rattle.io.specs.Counts.{IsPrefixLen}
+use Rattle.std.specs.Prelude.{ℕ, ◌+◌, ◌-◌, ◌≤◌, ◌≡◌, false, List, length, take, drop}
 use Rattle.meaning.specs.Program.{announced, frames}
 use Rattle.text.specs.Framed.{max_frame_bytes}
 use Rattle.input.specs.declared.Frame.{Frame}
+
+-- `&xs[..n]` is in bounds and has n bytes; the second part follows from the first
+abbrev pub IsPrefixLen : ℕ → List ℕ → Type 0
+IsPrefixLen n xs = (n ≤ length xs) × (n ≡ length (take n xs))
 
 -- the bytes read to a position
 abbrev pub read_to : List ℕ → ℕ → Frame → List ℕ

@@ -1,10 +1,14 @@
-// Reading sheets from a descriptor, each after its byte length, and no byte after the last of them.
+// Reading sheets from a reader, each after its byte length, and no byte after the last of them.
 #![tactic(auto)]
 
-ghost use Rattle.std.specs.Prelude.{◌+◌, ◌*◌, ◌≤◌, length};
+ghost use Rattle.std.specs.Prelude.{◌+◌, ◌*◌, ◌<◌, ◌≤◌, length, take, IfOk};
+ghost use Rattle.std.specs.Io.{ReadsAtMost};
+ghost use Rattle.std.specs.Io.KnownBytes.{Consumes, IsAtEnd};
 ghost use Rattle.text.specs.Framed.{max_frame_bytes};
-ghost use Rattle.input.specs.Read.{FrameRead, SheetsRead};
+ghost use Rattle.input.specs.Read.{FrameRead, SheetsRead, read_to};
 
+use std::io;
+use std::io::Read;
 use text::framing::length_at;
 
 // Where a sheet that was read ends, and whether the input ended before it was whole.
@@ -14,43 +18,62 @@ struct Frame {
     ended: bool,
 }
 
+// Reads until the bytes are full or the input ends: how many it put at their start.
+pub fn read_full<R: Read>(reader: &mut R, into: &mut [u8]) -> io::Result<usize>
+    ensures count { ReadsAtMost result into.new }
+    ensures bytes { IfOk result (λ n. Consumes (R.remaining reader.old) (R.remaining reader.new) (take n into.new)) }
+    ensures end { IfOk result (λ n. n < length into.new → IsAtEnd (R.remaining reader.new)) }
+{
+    let mut done = 0;
+    while done < into.len() {
+        let n = reader.read(&mut into[done..])?;
+        if n == 0 {
+            return Ok(done);
+        }
+        done += n;
+    }
+    Ok(done)
+}
+
 // Reads a byte length, and so many bytes after it, to a position.
-fn read_frame(fd: i32, into: &mut [u8], at: usize) -> Frame
+fn read_frame<R: Read>(reader: &mut R, into: &mut [u8], at: usize) -> io::Result<Frame>
     requires { at + max_frame_bytes ≤ length into.old }
-    ensures { FrameRead into.old at result into.new }
+    ensures frame { IfOk result (λ r. FrameRead into.old at r into.new) }
+    ensures bytes { IfOk result (λ r. Consumes (R.remaining reader.old) (R.remaining reader.new) (read_to into.new at r)) }
 {
     let start = at + 2;
-    let of_length = io::read_full(fd, &mut into[at..start]);
+    let of_length = read_full(reader, &mut into[at..start])?;
     if of_length < 2 {
-        return Frame {
+        return Ok(Frame {
             end: at + of_length,
             ended: true,
-        };
+        });
     }
     let size = length_at(into, at);
     let end = start + size;
-    let of_sheet = io::read_full(fd, &mut into[start..end]);
-    Frame {
+    let of_sheet = read_full(reader, &mut into[start..end])?;
+    Ok(Frame {
         end: start + of_sheet,
         ended: of_sheet < size,
-    }
+    })
 }
 
 // Reads the first n sheets, each after its byte length, to the front of `into`: how many bytes were read. It reads no byte after the
 // nth sheet, and stops where the input ends: what it then lacks is lacking in the sheets.
-pub fn read_sheets(fd: i32, n: usize, into: &mut [u8]) -> usize
+pub fn read_sheets<R: Read>(reader: &mut R, n: usize, into: &mut [u8]) -> io::Result<usize>
     requires { n * max_frame_bytes ≤ length into.old }
-    ensures { SheetsRead n result into.new }
+    ensures sheets { IfOk result (λ r. SheetsRead n r into.new) }
+    ensures bytes { IfOk result (λ r. Consumes (R.remaining reader.old) (R.remaining reader.new) (take r into.new)) }
 {
     let mut at = 0;
     let mut i = 0;
     while i < n {
-        let frame = read_frame(fd, &mut *into, at);
+        let frame = read_frame(reader, &mut *into, at)?;
         if frame.ended {
-            return frame.end;
+            return Ok(frame.end);
         }
         at = frame.end;
         i += 1;
     }
-    at
+    Ok(at)
 }

@@ -2,15 +2,17 @@
 // tables or the refusal.
 #![tactic(auto)]
 
+use std::io;
 use text::Text;
 use text::framing::Part;
 
 const SHEETS: usize = 4;
 
-fn main() {
+fn main(rt: HostRuntime) -> io::Result<()> {
     let mut input = [0u8; SHEETS * Part::FRAME];
     let mut text = [0u8; Text::BYTES];
-    let n = input::read_sheets(0, SHEETS, &mut input);
+    let mut stdin = rt.stdin();
+    let n = input::read_sheets(&mut stdin, SHEETS, &mut input)?;
     let k = migration::push(&input[..n], &mut text);
-    io::write_all(1, &text[..k]);
+    rt.write_all(&text[..k])
 }

@@ -2,6 +2,7 @@
 #![tactic(auto)]
 
 use migration::{Refusal, Verdict, Written};
+use std::io;
 
 // The last hexadecimal digit of x.
 fn digit(x: u8) -> u8 {
@@ -12,19 +13,20 @@ fn digit(x: u8) -> u8 {
 }
 
 // The bytes of a list, each after a space, in hexadecimal.
-fn put_bytes(bytes: &[u8]) {
+fn put_bytes(rt: &impl Print, bytes: &[u8]) -> io::Result<()> {
     let n = bytes.len();
     let mut i = 0;
     while i < n {
         let b = bytes[i];
         let text = [b' ', digit(b / 16), digit(b)];
-        io::write_all(1, &text);
+        rt.write_all(&text)?;
         i += 1;
     }
+    Ok(())
 }
 
 // A refusal: its number in two digits, and its place.
-fn put_refusal(refusal: Refusal) {
+fn put_refusal(rt: &impl Print, refusal: Refusal) -> io::Result<()> {
     let n = refusal.number;
     let text = [
         b' ',
@@ -33,18 +35,16 @@ fn put_refusal(refusal: Refusal) {
         b' ',
         digit(refusal.place),
     ];
-    io::write_all(1, b" refused");
-    io::write_all(1, &text);
+    rt.write_all(b" refused")?;
+    rt.write_all(&text)
 }
 
-fn put_verdict(verdict: Verdict) {
+fn put_verdict(rt: &impl Print, verdict: Verdict) -> io::Result<()> {
     match verdict {
-        Verdict::Accepted => {
-            io::write_all(1, b" accepted\n");
-        }
+        Verdict::Accepted => rt.write_all(b" accepted\n"),
         Verdict::Refused(refusal) => {
-            put_refusal(refusal);
-            io::write_all(1, b"\n");
+            put_refusal(rt, refusal)?;
+            rt.write_all(b"\n")
         }
     }
 }
@@ -58,60 +58,78 @@ fn front<'a>(tray: &'a [u8], n: usize) -> &'a [u8] {
 }
 
 // A turned list, which is the bytes that were written to the tray, or the refusal. Gives the list, or no bytes.
-fn put_written<'a>(written: Written, tray: &'a [u8]) -> &'a [u8] {
+fn put_written<'a>(rt: &impl Print, written: Written, tray: &'a [u8]) -> io::Result<&'a [u8]> {
     match written {
         Written::Bytes(n) => {
             let list = front(tray, n);
-            put_bytes(list);
-            io::write_all(1, b"\n");
-            list
+            put_bytes(rt, list)?;
+            rt.write_all(b"\n")?;
+            Ok(list)
         }
         Written::Refused(refusal) => {
-            put_refusal(refusal);
-            io::write_all(1, b"\n");
-            front(tray, 0)
+            put_refusal(rt, refusal)?;
+            rt.write_all(b"\n")?;
+            Ok(front(tray, 0))
         }
     }
 }
 
 // A list of the pushed side, turned to the raw side and back.
-fn from_pushed(s: &[u8], t: &[u8], f: &[u8], run: &[u8], book: &[u8], list: &[u8]) {
+fn from_pushed(
+    rt: &impl Print,
+    s: &[u8],
+    t: &[u8],
+    f: &[u8],
+    run: &[u8],
+    book: &[u8],
+    list: &[u8],
+) -> io::Result<()> {
     let mut turned = [0u8; 8];
     let mut back = [0u8; 8];
-    io::write_all(1, b"pushed");
-    put_bytes(list);
-    put_verdict(migration::check_pushed(s, t, f, run, book, list));
-    io::write_all(1, b"turned");
+    rt.write_all(b"pushed")?;
+    put_bytes(rt, list)?;
+    put_verdict(rt, migration::check_pushed(s, t, f, run, book, list))?;
+    rt.write_all(b"turned")?;
     let there = migration::pushed_to_raw(s, t, f, run, book, list, &mut turned);
-    let result = put_written(there, &turned);
+    let result = put_written(rt, there, &turned)?;
     if result.len() == 0 {
-        return;
+        return Ok(());
     }
-    io::write_all(1, b"back");
+    rt.write_all(b"back")?;
     let again = migration::raw_to_pushed(s, t, f, run, book, result, &mut back);
-    put_written(again, &back);
+    put_written(rt, again, &back)?;
+    Ok(())
 }
 
 // A list of the raw side, turned to the pushed side and back.
-fn from_raw(s: &[u8], t: &[u8], f: &[u8], run: &[u8], book: &[u8], list: &[u8]) {
+fn from_raw(
+    rt: &impl Print,
+    s: &[u8],
+    t: &[u8],
+    f: &[u8],
+    run: &[u8],
+    book: &[u8],
+    list: &[u8],
+) -> io::Result<()> {
     let mut turned = [0u8; 8];
     let mut back = [0u8; 8];
-    io::write_all(1, b"raw");
-    put_bytes(list);
-    put_verdict(migration::check_raw(s, t, f, run, book, list));
-    io::write_all(1, b"turned");
+    rt.write_all(b"raw")?;
+    put_bytes(rt, list)?;
+    put_verdict(rt, migration::check_raw(s, t, f, run, book, list))?;
+    rt.write_all(b"turned")?;
     let there = migration::raw_to_pushed(s, t, f, run, book, list, &mut turned);
-    let result = put_written(there, &turned);
+    let result = put_written(rt, there, &turned)?;
     if result.len() == 0 {
-        return;
+        return Ok(());
     }
-    io::write_all(1, b"back");
+    rt.write_all(b"back")?;
     let again = migration::pushed_to_raw(s, t, f, run, book, result, &mut back);
-    put_written(again, &back);
+    put_written(rt, again, &back)?;
+    Ok(())
 }
 
 // The two matchings 2 0 1 0 1 (pushed) and 2 0 0 1 1 (raw), and each as a list of the other side, which it is not.
-fn main() {
+fn main(rt: HostRuntime) -> io::Result<()> {
     let s = b"\x18\x42\x00\x04\x84\x04\x84";
     let t = b"\x10\x21\x00\x04\x04";
     let f = b"\x01\x01\x00\x80\x00";
@@ -119,8 +137,8 @@ fn main() {
     let book = b"\x00\xC0\x20\x00\x04\x02\x00\x00\x02\x58\x00\x00\x05\x82\x00\x00\x05\x78";
     let pushed = b"\x01\x00\x00\x20\x00\x08";
     let raw = b"\x01\x00\x00\x00\x10\x08";
-    from_pushed(s, t, f, run, book, pushed);
-    from_raw(s, t, f, run, book, raw);
-    from_pushed(s, t, f, run, book, raw);
-    from_raw(s, t, f, run, book, pushed);
+    from_pushed(&rt, s, t, f, run, book, pushed)?;
+    from_raw(&rt, s, t, f, run, book, raw)?;
+    from_pushed(&rt, s, t, f, run, book, raw)?;
+    from_raw(&rt, s, t, f, run, book, pushed)
 }
