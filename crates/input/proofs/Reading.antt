@@ -9,8 +9,8 @@ use lib.ListN.{length, take, drop, get_or, length-drop}
 use lib.Seq.{drop-drop, take-nil, take_all, take-add, take-take, take-append-le, drop_at, length-take-le, get_or-take}
 use borrow.Author.Tests.{ltb-false}
 use borrow.Rule.Slice.PartMut.{put_mid, post_of}
-use Rattle.std.specs.Io.KnownBytes.{Consumes}
-use Rattle.std.proofs.KnownBytes.{Consumes-trans}
+use Rattle.std.specs.Io.KnownBytes.{Consumes, Keeps}
+use Rattle.std.proofs.KnownBytes.{Consumes-trans, Consumes-kept}
 use Rattle.std.proofs.lemmas.Slice.{take-put_mid_below}
 use Rattle.std.proofs.lemmas.List.{drop-take}
 use Rattle.std.specs.Prelude.{Option}
@@ -19,7 +19,7 @@ use Rattle.agreement.proofs.Framing.{Whole, whole-none, whole-next, whole-last, 
 use Rattle.text.specs.Framed.{max_sheet_bytes, max_frame_bytes, LengthFound}
 use Rattle.text.proofs.SheetParts.{length_some}
 use Rattle.input.specs.declared.Frame.{Frame}
-use Rattle.input.specs.Read.{IsPrefixLen, read_to, FrameRead, SheetsRead}
+use Rattle.input.specs.Read.{IsPrefixLen, read_to, FrameRead, SheetsRead, BrokenOff}
 
 prefix_len_of_le : (n : ℕ) (xs : List ℕ) → n ≤ length xs → IsPrefixLen n xs
 prefix_len_of_le n xs h = (h, sym (length-take-le n xs h))
@@ -64,6 +64,57 @@ frame_consumed a b c at k m n got old two part ended within size kept few enough
     let read : take (at + 2 + got - at) (drop at new) ≡ take n two ++ take got part =
     ap (λ i. take i (drop at new)) count ∙ two_and_more at k m got old two part within size kept fits ∙ ap (λ i. take i two ++ take got part) (sym n_is) in
     subst (Consumes a c) (sym read) (Consumes-trans a b c _ _ before now)
+
+-- ---- what a failed read leaves
+
+-- a read after others fails, and takes nothing
+pub broken_behind : (a b c : Option (List ℕ)) (at k : ℕ) (old into part : List ℕ) → at ≤ length into → length (put_mid at k into part) ≡ length into
+    → Consumes a b (take at into) → Keeps b c → BrokenOff a c old 0 (put_mid at k into part)
+broken_behind a b c at k old into part within kept read none = record {
+  before = take-nil 0;
+  read = at;
+  within = omega arith;
+  bytes = subst (Consumes a c) (sym (take-put_mid_below at k into part at (omega arith) within)) (Consumes-kept a b c _ read none);
+}
+
+-- a part is read to, and that breaks off
+pub broken_part : (a b : Option (List ℕ)) (at k : ℕ) (into part old : List ℕ) → at + length part ≤ length into → length (put_mid at k into part) ≡ length into
+    → BrokenOff a b old 0 part → BrokenOff a b into at (put_mid at k into part)
+broken_part a b at k into part old within kept broken =
+    let n = broken.read in
+    let fits : n ≤ length part = let h = broken.within in omega arith in
+    record {
+      before = take-put_mid_below at k into part at (omega arith) (omega arith);
+      read = n;
+      within = omega arith;
+      bytes = subst (Consumes a b) (sym (read_there at k n into part (omega arith) fits)) broken.bytes;
+    }
+
+-- two bytes are read, and what is behind them breaks off
+pub broken_sheet : (a b c : Option (List ℕ)) (at k m n : ℕ) (into two part old : List ℕ) → at + 2 ≤ length into → length two ≡ 2 → length (put_mid at k into two) ≡ length into
+    → at + 2 + length part ≤ length into → length (put_mid (at + 2) m (put_mid at k into two) part) ≡ length into → n ≤ 2 → 2 ≤ n
+    → Consumes a b (take n two) → BrokenOff b c old 0 part → BrokenOff a c into at (put_mid (at + 2) m (put_mid at k into two) part)
+broken_sheet a b c at k m n into two part old within size kept inside kept_too few enough read broken =
+    let got = broken.read in
+    let first = put_mid at k into two in
+    let n_is : n ≡ 2 = omega arith in
+    let fits : got ≤ length part = let h = broken.within in omega arith in
+    let front : take at (put_mid (at + 2) m first part) ≡ take at first = take-put_mid_below (at + 2) m first part at (omega arith) (omega arith) in
+    record {
+      before = front ∙ take-put_mid_below at k into two at (omega arith) (omega arith);
+      read = 2 + got;
+      within = omega arith;
+      bytes = subst (Consumes a c) (sym (two_and_more at k m got into two part within size kept fits ∙ ap (λ i. take i two ++ take got part) (sym n_is))) (Consumes-trans a b c _ _ read broken.bytes);
+    }
+
+-- sheets are read, and the next one breaks off
+pub broken_next : (a b c : Option (List ℕ)) (at : ℕ) (old into new : List ℕ) → Consumes a b (take at into) → BrokenOff b c into at new → BrokenOff a c old 0 new
+broken_next a b c at old into new read broken = record {
+  before = take-nil 0;
+  read = at + broken.read;
+  within = let h = broken.within in omega arith;
+  bytes = subst (Consumes a c) (ap (◌++ take broken.read (drop at new)) (sym broken.before) ∙ sym (take-add at broken.read new)) (Consumes-trans a b c _ _ read broken.bytes);
+}
 
 -- ---- a byte length, and the sheet after it
 

@@ -1,5 +1,6 @@
 -- What has been read: sheets with their byte lengths, and no byte after them.
-use Rattle.std.specs.Prelude.{ℕ, ◌+◌, ◌-◌, ◌≤◌, ◌≡◌, false, List, length, take, drop}
+use Rattle.std.specs.Prelude.{ℕ, ◌+◌, ◌-◌, ◌≤◌, ◌≡◌, false, List, length, take, drop, Option}
+use Rattle.std.specs.Io.KnownBytes.{Consumes}
 use Rattle.meaning.specs.Program.{announced, frames}
 use Rattle.text.specs.Framed.{max_frame_bytes}
 use Rattle.input.specs.declared.Frame.{Frame}
@@ -24,3 +25,10 @@ pub record FrameRead (old : List ℕ) (at : ℕ) (r : Frame) (new : List ℕ) : 
 pub record SheetsRead (n r : ℕ) (into : List ℕ) : Type 0 where
   pub counts : IsPrefixLen r into
   pub no_more : frames n (take r into) ≡ take r into
+
+-- what a failed read leaves: the bytes that were read before it stand from a position on, and nothing before them changed
+pub record BrokenOff (had left : Option (List ℕ)) (old : List ℕ) (at : ℕ) (new : List ℕ) : Type 0 where
+  pub before : take at new ≡ take at old
+  pub read : ℕ
+  pub within : at + read ≤ length new
+  pub bytes : Consumes had left (take read (drop at new))

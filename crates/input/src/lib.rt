@@ -1,11 +1,11 @@
 // Reading sheets from a reader, each after its byte length, and no byte after the last of them.
 #![tactic(auto)]
 
-ghost use Rattle.std.specs.Prelude.{◌+◌, ◌*◌, ◌<◌, ◌≤◌, length, take, IfOk};
+ghost use Rattle.std.specs.Prelude.{◌+◌, ◌*◌, ◌<◌, ◌≤◌, length, take, IfOk, OnErr};
 ghost use Rattle.std.specs.Io.{ReadsAtMost};
 ghost use Rattle.std.specs.Io.KnownBytes.{Consumes, IsAtEnd};
 ghost use Rattle.text.specs.Framed.{max_frame_bytes};
-ghost use Rattle.input.specs.Read.{FrameRead, SheetsRead, read_to};
+ghost use Rattle.input.specs.Read.{FrameRead, SheetsRead, BrokenOff, read_to};
 
 use std::io;
 use std::io::Read;
@@ -23,6 +23,7 @@ pub fn read_full<R: Read>(reader: &mut R, into: &mut [u8]) -> io::Result<usize>
     ensures count { ReadsAtMost result into.new }
     ensures bytes { IfOk result (λ n. Consumes (R.remaining reader.old) (R.remaining reader.new) (take n into.new)) }
     ensures end { IfOk result (λ n. n < length into.new → IsAtEnd (R.remaining reader.new)) }
+    ensures err { OnErr result (BrokenOff (R.remaining reader.old) (R.remaining reader.new) into.old 0 into.new) }
 {
     let mut done = 0;
     while done < into.len() {
@@ -40,6 +41,7 @@ fn read_frame<R: Read>(reader: &mut R, into: &mut [u8], at: usize) -> io::Result
     requires { at + max_frame_bytes ≤ length into.old }
     ensures frame { IfOk result (λ r. FrameRead into.old at r into.new) }
     ensures bytes { IfOk result (λ r. Consumes (R.remaining reader.old) (R.remaining reader.new) (read_to into.new at r)) }
+    ensures err { OnErr result (BrokenOff (R.remaining reader.old) (R.remaining reader.new) into.old at into.new) }
 {
     let start = at + 2;
     let of_length = read_full(reader, &mut into[at..start])?;
@@ -64,6 +66,7 @@ pub fn read_sheets<R: Read>(reader: &mut R, n: usize, into: &mut [u8]) -> io::Re
     requires { n * max_frame_bytes ≤ length into.old }
     ensures sheets { IfOk result (λ r. SheetsRead n r into.new) }
     ensures bytes { IfOk result (λ r. Consumes (R.remaining reader.old) (R.remaining reader.new) (take r into.new)) }
+    ensures err { OnErr result (BrokenOff (R.remaining reader.old) (R.remaining reader.new) into.old 0 into.new) }
 {
     let mut at = 0;
     let mut i = 0;

@@ -2,7 +2,8 @@
 use Rattle.std.proofs.Common.{arith, sym, subst}
 use Rattle.std.specs.Io.KnownBytes.{Consumes}
 use Rattle.std.proofs.KnownBytes.{Consumes-nil, Consumes-trans}
-use Rattle.input.proofs.Reading.{none_read, room-left, next-read, last-read, all_read, joined}
+use Rattle.std.proofs.lemmas.Result.{err_from_is_err_and}
+use Rattle.input.proofs.Reading.{broken_next, none_read, room-left, next-read, last-read, all_read, joined}
 use Rattle.input.proofs.read_sheets.Goals as goal
 
 pub loop-i-init : goal.loop-i-init
@@ -25,3 +26,8 @@ returns-clause-sheets g c = all_read c.loop-i.invariant.0 (omega arith) c.requir
 
 pub returns-clause-bytes : goal.returns-clause-bytes
 returns-clause-bytes g c = c.loop-i.invariant.1
+
+pub returns-in_err-frame-clause-err : goal.returns-in_err-frame-clause-err
+returns-in_err-frame-clause-err g c =
+    let p = err_from_is_err_and c.from_residual.result c.from_residual.ensures.1 in
+    rw p.1 (broken_next _ _ _ c.loop-i.at c.args.into.now c.loop-i.into c.read_frame.new.into c.loop-i.invariant.1 c.in_err-frame.ensures.err)
