@@ -2,14 +2,23 @@
 // tables of the query or the refusal.
 #![tactic(auto)]
 
+ghost use Rattle.std.specs.Prelude.{◌≡◌, length};
+
 use std::io;
 use text::Text;
 use text::framing::Part;
 
 const SHEETS: usize = 8;
 
+// The input before it is read.
+fn unread() -> [u8; SHEETS * Part::FRAME]
+    ensures { 524296 ≡ length result }
+{
+    [0; SHEETS * Part::FRAME]
+}
+
 fn main(rt: HostRuntime) -> io::Result<()> {
-    let mut input = [0u8; SHEETS * Part::FRAME];
+    let mut input = unread();
     let mut text = [0u8; Text::BYTES];
     let mut stdin = rt.stdin();
     let n = input::read_sheets(&mut stdin, SHEETS, &mut input)?;
