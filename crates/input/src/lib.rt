@@ -18,7 +18,7 @@ struct Frame {
     ended: bool,
 }
 
-// Reads until the bytes are full or the input ends: how many it put at their start.
+// Reads until the bytes are full or the input ends: how many it put at their start. The only error is that of a read that failed.
 pub fn read_full<R: Read>(reader: &mut R, into: &mut [u8]) -> io::Result<usize>
     ensures count { ReadsAtMost result into.new }
     ensures bytes { IfOk result (λ n. Consumes (R.remaining reader.old) (R.remaining reader.new) (take n into.new)) }
@@ -61,7 +61,7 @@ fn read_frame<R: Read>(reader: &mut R, into: &mut [u8], at: usize) -> io::Result
 }
 
 // Reads the first n sheets, each after its byte length, to the front of `into`: how many bytes were read. It reads no byte after the
-// nth sheet, and stops where the input ends: what it then lacks is lacking in the sheets.
+// nth sheet, and stops where the input ends: what it then lacks is lacking in the sheets. The only error is that of a read that failed.
 pub fn read_sheets<R: Read>(reader: &mut R, n: usize, into: &mut [u8]) -> io::Result<usize>
     requires { n * max_frame_bytes ≤ length into.old }
     ensures sheets { IfOk result (λ r. SheetsRead n r into.new) }

@@ -19,7 +19,7 @@ small c = omega (arith, within c, c.requires.0.limits.equations)
 ready : (c : In-loop-q) → Ready c.args.t c.args.p c.args.x c.prefixes-prefix.result c.wide-n.result
 ready c = let h = c.requires in record { sound = h.0; table = h.1.table; x_in = h.2; fronts = c.prefixes-prefix.ensures; size = c.wide-n.ensures }
 
--- ---- the needs
+-- ---- the goals
 pub bounds-p-x : goal.bounds-p-x
 bounds-p-x c = let h = c.requires in omega (arith, h.2, h.1.table.few)
 
