@@ -6,9 +6,9 @@ mod calls;
 
 ghost use Rattle.std.specs.Prelude.{◌≡◌, ◌+◌, ◌≤◌, ◌<◌, length, IfOk};
 
-use calls::{answer, changed, is_change};
+use calls::{Asked, Call, Change, Sheets, answer, changed};
 use std::io;
-use text::framing::{bytes_of, sheet_at};
+use text::framing::{bytes_of, length_at, sheet_at};
 
 // The checksum's modulus.
 const MODULUS: u64 = 4294967291;
@@ -22,169 +22,36 @@ const TRAY: usize = 65536;
 // At most so many bytes are read.
 const INPUT: usize = 655360;
 
-// A checksum with one byte more.
-fn mixed(sum: u64, byte: u8) -> u64 {
-    (sum % MODULUS * 257 + byte as u64 + 1) % MODULUS
-}
-
 // The checksum of a tray.
 fn checksum(tray: &[u8]) -> u64 {
-    let n = tray.len();
-    let mut sum = 0;
-    let mut i = 0;
-    while i < n {
-        sum = mixed(sum, tray[i]);
-        i += 1;
-    }
-    sum
+    tray.iter().fold(0, |sum, byte| {
+        (sum % MODULUS * 257 + u64::from(*byte) + 1) % MODULUS
+    })
 }
 
-// 2 to the power 56: what is below it has room for a byte more.
-const SEVEN_BYTES: u64 = 72057594037927936;
-
-// A number with one byte more at its end; only the last eight bytes count.
-fn lengthened(number: u64, byte: u8) -> u64 {
-    number % SEVEN_BYTES * 256 + byte as u64
-}
-
-// The number that bytes are, most significant first: 8 bytes in a record, 0 where there are none.
-fn number_of(bytes: &[u8]) -> u64 {
-    let n = bytes.len();
-    let mut number = 0;
-    let mut i = 0;
-    while i < n {
-        number = lengthened(number, bytes[i]);
-        i += 1;
-    }
-    number
-}
-
-// As many bytes as a tray holds and are lent.
-fn fewer(lent: &[u8], tray: &[u8]) -> usize
-    ensures { (result ≤ length lent.now) × (result ≤ length tray.now) }
-{
-    if lent.len() < tray.len() {
-        return lent.len();
-    }
-    tray.len()
-}
-
-// Copies n bytes to the start of a tray.
-fn copy(lent: &[u8], n: usize, tray: &mut [u8])
-    requires { (n ≤ length lent.now) × (n ≤ length tray.old) }
-{
-    let mut i = 0;
-    while i < n {
-        tray[i] = lent[i];
-        i += 1;
-    }
-}
-
-fn wide(x: u8) -> usize
-    ensures { result < 256 }
-{
-    x as usize
-}
-
-// The 16-bit number at a position.
-fn number_at(input: &[u8], at: usize) -> usize
-    requires { at + 2 ≤ length input.now }
-    ensures { result < 65536 }
-{
-    256 * wide(input[at]) + wide(input[at + 1])
-}
-
-// Makes a call, and prints its answer and the checksum of the tray on a line; a change is made and printed with both its trays.
-fn put_answer<'a>(
-    rt: &impl Print,
-    call: u8,
-    s: &'a [u8],
-    t: &'a [u8],
-    f: &'a [u8],
-    i: &'a [u8],
-    j: &'a [u8],
-    k: &'a [u8],
-    l: &'a [u8],
-    m: &'a [u8],
-    tray: &mut [u8],
-) -> io::Result<()> {
-    if is_change(call) {
-        return make_change(rt, call, s, t, f, i, j, k, l, m, &mut *tray);
-    }
-    let answer = answer(call, s, t, f, i, j, k, l, m, &mut *tray);
-    let sum = checksum(&*tray);
+// Makes a call, and prints its answer and the checksum of the tray on a line.
+fn put_answer(rt: &impl Print, call: Call, sheets: Sheets<'_>, tray: &mut [u8]) -> io::Result<()> {
+    let answer = answer(call, sheets, tray);
+    let sum = checksum(tray);
     println!(rt; "{answer} {sum}")
 }
 
-// Makes a change, and prints its answer, the checksum of the pushed tray and that of the run's tray on a line.
-fn put_change<'a>(
+// Makes a change, in a copy of the run's tray, and prints its answer, the checksum of the pushed tray and that of the run's tray on a line.
+fn put_change(
     rt: &impl Print,
-    call: u8,
-    s: &'a [u8],
-    t: &'a [u8],
-    f: &'a [u8],
-    run: &mut [u8],
-    length: u64,
-    table: u64,
-    added: &'a [u8],
-    withdrawn: u64,
+    change: Change,
+    sheets: Sheets<'_>,
     pushed: &mut [u8],
 ) -> io::Result<()> {
-    let answer = changed(
-        call,
-        s,
-        t,
-        f,
-        &mut *run,
-        length,
-        table,
-        added,
-        withdrawn,
-        &mut *pushed,
-    );
-    let pushed_sum = checksum(&*pushed);
-    let run_sum = checksum(&*run);
+    let lent = sheets[3];
+    let mut copy = [UNWRITTEN; TRAY];
+    let n = lent.len().min(TRAY);
+    let run = &mut copy[..n];
+    run.copy_from_slice(&lent[..n]);
+    let answer = changed(change, sheets, run, pushed);
+    let pushed_sum = checksum(pushed);
+    let run_sum = checksum(run);
     println!(rt; "{answer} {pushed_sum} {run_sum}")
-}
-
-// Makes the change of a record, in a copy of the run's tray, and prints it.
-fn make_change<'a>(
-    rt: &impl Print,
-    call: u8,
-    s: &'a [u8],
-    t: &'a [u8],
-    f: &'a [u8],
-    lent: &'a [u8],
-    added: &'a [u8],
-    length: &'a [u8],
-    table: &'a [u8],
-    withdrawn: &'a [u8],
-    pushed: &mut [u8],
-) -> io::Result<()> {
-    let mut run = [UNWRITTEN; TRAY];
-    let n = fewer(lent, &run);
-    copy(lent, n, &mut run);
-    put_change(
-        rt,
-        call,
-        s,
-        t,
-        f,
-        &mut run[..n],
-        number_of(length),
-        number_of(table),
-        added,
-        number_of(withdrawn),
-        &mut *pushed,
-    )
-}
-
-// Where a number ends.
-fn after(input: &[u8], at: usize) -> usize
-    requires { at + 2 ≤ length input.now }
-    ensures { at < result }
-{
-    at + 2
 }
 
 // Makes the call of the record at a position; gives where the next one stands.
@@ -192,41 +59,29 @@ fn make_call(rt: &impl Print, input: &[u8], at: usize) -> io::Result<usize>
     requires { at < length input.now }
     ensures { IfOk result (λ next. at < next) }
 {
-    let a = sheet_at(input, at + 1);
-    let b = sheet_at(input, a.end);
-    let c = sheet_at(input, b.end);
-    let d = sheet_at(input, c.end);
-    let e = sheet_at(input, d.end);
-    let f = sheet_at(input, e.end);
-    let g = sheet_at(input, f.end);
-    let h = sheet_at(input, g.end);
-    let last = h.end;
-    if input.len() - last < 2 {
+    let mut sheets: Sheets<'_> = [input; 8];
+    let mut next = at + 1;
+    for sheet in sheets.iter_mut() {
+        let part = sheet_at(input, next);
+        *sheet = bytes_of(input, part);
+        next = part.end;
+    }
+    if input.len() - next < 2 {
         return Ok(input.len());
     }
-    let room = number_at(input, last);
+    let room = length_at(input, next);
     let mut tray = [UNWRITTEN; TRAY];
-    put_answer(
-        rt,
-        input[at],
-        bytes_of(input, a),
-        bytes_of(input, b),
-        bytes_of(input, c),
-        bytes_of(input, d),
-        bytes_of(input, e),
-        bytes_of(input, f),
-        bytes_of(input, g),
-        bytes_of(input, h),
-        &mut tray[..room],
-    )?;
-    Ok(after(input, last))
+    match Asked::from(input[at]) {
+        Asked::Call(call) => put_answer(rt, call, sheets, &mut tray[..room])?,
+        Asked::Change(change) => put_change(rt, change, sheets, &mut tray[..room])?,
+    }
+    Ok(next + 2)
 }
 
 // Makes the call of each record.
 fn make_calls(rt: &impl Print, input: &[u8]) -> io::Result<()> {
-    let n = input.len();
     let mut at = 0;
-    while at < n {
+    while at < input.len() {
         at = make_call(rt, input, at)?;
     }
     Ok(())

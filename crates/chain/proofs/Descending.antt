@@ -5,7 +5,6 @@ use mathlib.Core.Bool.{Bool, true, false}
 use mathlib.Core.List.{List, [], ◌∷◌, ◌++◌, map, map-append, append_assoc, append-nil}
 use mathlib.Core.Option.{some}
 use native.Mathlib.Omega.{arith}
-use native.Mathlib.Decide.{dec_lt}
 use lib.ListN.{length, get_or, set, length-set}
 use lib.Seq.{get_or-set_same, get_or-set_other}
 use lib.Dec.{ltb, eqb}
@@ -27,7 +26,7 @@ use Rattle.paths.specs.Table.{IsTable}
 use Rattle.chain.specs.declared.nearer.Move.{Move}
 use Rattle.chain.specs.Places.{step_number}
 use Rattle.chain.specs.Levels.{Reaches}
-use Rattle.chain.specs.Nearer.{is_at, StepFound, NearestStep, Descends, Descended}
+use Rattle.chain.specs.Nearer.{is_at, StepFound, NoStep, Descends, Descended}
 use Rattle.chain.proofs.StepPlaces.{step-number-path, step-number-none}
 
 -- i of n steps are taken, from path x to path at: with them in front, the first of the shortest chains from there is the first from path x
@@ -77,8 +76,7 @@ module _ {S : meaning.Schema} {l : List ℕ} {x n : ℕ} where
 -- ---- one step
 
 module _ (t : Schema) (p : Paths) (sound : Sound t) (table : IsTable (graph_of t.graph) p) (l : List ℕ) (x n : ℕ) (start : Descends (schema_of t) l x n)
-    (old : List ℕ) (at i : ℕ) (steps : List ℕ) (so : Descending (schema_of t) l x n old at i steps) (k : ℕ) (above : get_or l at 0 ≡ suc k)
-    {r : Move} (next : NearestStep (schema_of t) l at k r) where
+    (old : List ℕ) (at i : ℕ) (steps : List ℕ) (so : Descending (schema_of t) l x n old at i steps) (k : ℕ) (above : get_or l at 0 ≡ suc k) where
   abbrev S : meaning.Schema
   S = schema_of t
 
@@ -104,49 +102,46 @@ module _ (t : Schema) (p : Paths) (sound : Sound t) (table : IsTable (graph_of t
         ((reaches.near z k (omega (arith, w.0, table.counted)) (omega (arith, above, so.away, start.away))).1 (subst (λ (v : meaning.Path). IsDistance S there v k) (sym w.1) d))
 
   -- so there is one
-  found : StepFound S l at k r
-  found = go (dec_lt r.path 256)
-    where
-      go : Dec (r.path < 256) → StepFound S l at k r
-      go (yes a) = next.found a
-      go (no a) =
-          let s = distance_next (far start.reaches) in
-          absurd (no_bool (sym (seen start.reaches s.0 s.1 s.2) ∙ next.none (omega arith) s.0 (numbered S here s.0 s.1)))
+  pub no_step : NoStep S l at k → ⊥
+  no_step next =
+      let s = distance_next (far start.reaches) in
+      no_bool (sym (seen start.reaches s.0 s.1 s.2) ∙ next.none s.0 (numbered S here s.0 s.1))
 
-  made-step : is_step S here (step_of r.step) ≡ true
-  made-step = go (is_step S here (step_of r.step)) refl
-    where
-      go : (b : Bool) → is_step S here (step_of r.step) ≡ b → b ≡ true
-      go true e = refl
-      go false e = absurd (omega (arith, (true-at l r.path k found.near).0, found.path, step-number-none t p sound table at (step_of r.step) e))
+  module _ {r : Move} (found : StepFound S l at k r) where
+    made-step : is_step S here (step_of r.step) ≡ true
+    made-step = go (is_step S here (step_of r.step)) refl
+      where
+        go : (b : Bool) → is_step S here (step_of r.step) ≡ b → b ≡ true
+        go true e = refl
+        go false e = absurd (omega (arith, (true-at l r.path k found.near).0, found.path, step-number-none t p sound table at (step_of r.step) e))
 
-  made_at : (r.path < p.count) × (path_at S.graph r.path ≡ made S here (step_of r.step))
-  made_at = subst (λ (z : ℕ). (z < p.count) × (path_at S.graph z ≡ made S here (step_of r.step))) (sym found.path) (step-number-path t p sound table at at_low (step_of r.step) made-step)
+    made_at : (r.path < p.count) × (path_at S.graph r.path ≡ made S here (step_of r.step))
+    made_at = subst (λ (z : ℕ). (z < p.count) × (path_at S.graph z ≡ made S here (step_of r.step))) (sym found.path) (step-number-path t p sound table at at_low (step_of r.step) made-step)
 
-  -- no step before it begins a chain of k steps more
-  none_before : {y : ℕ} → Reaches S x y l → (u : Step) → is_step S here u ≡ true → StepBefore u (step_of r.step) → chains S k (made S here u) (path_at S.graph y) ≡ []
-  none_before reaches u e b = distance-far u (far reaches) e (λ d. no_bool (sym (seen reaches u e d) ∙ found.first_such u (numbered S here u e) b))
+    -- no step before it begins a chain of k steps more
+    none_before : {y : ℕ} → Reaches S x y l → (u : Step) → is_step S here u ≡ true → StepBefore u (step_of r.step) → chains S k (made S here u) (path_at S.graph y) ≡ []
+    none_before reaches u e b = distance-far u (far reaches) e (λ d. no_bool (sym (seen reaches u e d) ∙ found.first_such u (numbered S here u e) b))
 
-  module _ (room : i < length steps) {new : List ℕ} (stored : new ≡ set steps i r.step) where
-    front-more : front_of (i + 1) new ≡ front_of i steps ++ (r.step ∷ [])
-    front-more = ap (front_of (i + 1)) stored ∙ tabulate-store i (λ j h. get_or-set_other steps i j r.step 0 (λ e. absurd (omega arith))) (get_or-set_same steps i r.step 0 room)
+    module _ (room : i < length steps) {new : List ℕ} (stored : new ≡ set steps i r.step) where
+      front-more : front_of (i + 1) new ≡ front_of i steps ++ (r.step ∷ [])
+      front-more = ap (front_of (i + 1)) stored ∙ tabulate-store i (λ j h. get_or-set_other steps i j r.step 0 (λ e. absurd (omega arith))) (get_or-set_same steps i r.step 0 room)
 
-    longer : {y : ℕ} → Reaches S x y l → {c : List Step} → lists.first (chains S (get_or l r.path 0) (path_at S.graph r.path) (path_at S.graph y)) ≡ some c
-        → lists.first (chains S n (path_at S.graph x) (path_at S.graph y)) ≡ some (map step_of (front_of (i + 1) new) ++ c)
-    longer {y} reaches {c} e =
-        let q : meaning.Path = path_at S.graph y in
-        let s : Step = step_of r.step in
-        let d : get_or l r.path 0 ≡ k = (true-at l r.path k found.near).1 in
-        let f : lists.first (chains S k (made S here s) q) ≡ some c = ap₂ (λ (j : ℕ) (w : meaning.Path). lists.first (chains S j w q)) (sym d) (sym made_at.1) ∙ e in
-        let g : lists.first (chains S (suc k) here q) ≡ some (s ∷ c) = chains-first S k here q s made-step (none_before reaches) f in
-        let h : map step_of (front_of (i + 1) new) ++ c ≡ map step_of (front_of i steps) ++ (s ∷ c) =
-        ap (λ (a : List ℕ). map step_of a ++ c) front-more ∙ ap (λ (a : List Step). a ++ c) (map-append step_of (front_of i steps) (r.step ∷ [])) ∙ append_assoc (map step_of (front_of i steps)) (s ∷ []) c in
-        so.so_far y reaches (ap (λ (j : ℕ). lists.first (chains S j here q)) above ∙ g) ∙ ap (λ (a : List Step). some a) (sym h)
+      longer : {y : ℕ} → Reaches S x y l → {c : List Step} → lists.first (chains S (get_or l r.path 0) (path_at S.graph r.path) (path_at S.graph y)) ≡ some c
+          → lists.first (chains S n (path_at S.graph x) (path_at S.graph y)) ≡ some (map step_of (front_of (i + 1) new) ++ c)
+      longer {y} reaches {c} e =
+          let q : meaning.Path = path_at S.graph y in
+          let s : Step = step_of r.step in
+          let d : get_or l r.path 0 ≡ k = (true-at l r.path k found.near).1 in
+          let f : lists.first (chains S k (made S here s) q) ≡ some c = ap₂ (λ (j : ℕ) (w : meaning.Path). lists.first (chains S j w q)) (sym d) (sym made_at.1) ∙ e in
+          let g : lists.first (chains S (suc k) here q) ≡ some (s ∷ c) = chains-first S k here q s made-step (none_before reaches) f in
+          let h : map step_of (front_of (i + 1) new) ++ c ≡ map step_of (front_of i steps) ++ (s ∷ c) =
+          ap (λ (a : List ℕ). map step_of a ++ c) front-more ∙ ap (λ (a : List Step). a ++ c) (map-append step_of (front_of i steps) (r.step ∷ [])) ∙ append_assoc (map step_of (front_of i steps)) (s ∷ []) c in
+          so.so_far y reaches (ap (λ (j : ℕ). lists.first (chains S j here q)) above ∙ g) ∙ ap (λ (a : List Step). some a) (sym h)
 
-    pub descending-more : Descending S l x n old r.path (i + 1) new
-    descending-more = record {
-      at_in = omega (arith, made_at.0, table.counted);
-      away = omega (arith, so.away, above, (true-at l r.path k found.near).1);
-      so_far = λ y reaches {c} e. longer reaches e;
-      long = ap length stored ∙ length-set steps i r.step ∙ so.long;
-    }
+      pub descending-more : Descending S l x n old r.path (i + 1) new
+      descending-more = record {
+        at_in = omega (arith, made_at.0, table.counted);
+        away = omega (arith, so.away, above, (true-at l r.path k found.near).1);
+        so_far = λ y reaches {c} e. longer reaches e;
+        long = ap length stored ∙ length-set steps i r.step ∙ so.long;
+      }

@@ -7,7 +7,7 @@ use mathlib.Core.Logic.{inl, inr}
 use native.Mathlib.Omega.{arith}
 use native.Mathlib.Decide.{dec_lt}
 use lib.ListN.{length, get_or}
-use lib.Dec.{leb, ltb, eqb}
+use lib.Dec.{leb, ltb}
 use borrow.Author.Tests.{leb-true, le-leb, ltb-true, lt-ltb}
 use Rattle.theory.proofs.Numbering.{tabulate-length}
 use Rattle.meaning.specs.Schema as meaning
@@ -26,7 +26,7 @@ use Rattle.paths.specs.PathNumbers.{length_of}
 use Rattle.paths.specs.Table.{IsTable}
 use Rattle.chain.specs.declared.nearer.Move.{Move}
 use Rattle.chain.specs.Places.{Prefixes, step_number, old_of, new_of, landing_at, LandsIn}
-use Rattle.chain.specs.Nearer.{is_at, PlaceFound, NearestPlace, StepFound, NearestStep}
+use Rattle.chain.specs.Nearer.{is_at, PlaceFound, NoPlace, StepFound, NoStep}
 use Rattle.chain.proofs.StepPlaces.{lands-in, landing_is, length-low}
 
 -- ---- the first place
@@ -47,14 +47,11 @@ module _ (end last first rank prefix : List ℕ) (n : ℕ) (old new : Path) (l :
         go a h (yes i) = none.each a i
         go a h (no i) = let j : a ≡ b = omega arith in ap (λ (c : ℕ). is_at l (landing_at end last first rank prefix n old new c) k) j ∙ ap (λ (z : ℕ). is_at l z k) (sym landed) ∙ e
 
-    pub place_found : b ≤ n → is_at l y k ≡ true → NearestPlace end last first rank prefix n old new l k (record { step = b; path = y })
-    place_found h e = record {
-      found = λ _. record { place = h; path = landed; near = e; first_such = none.each };
-      none = λ i. let j = (and_both (ltb y 256) (eqb (get_or l y 0) k) e).0 in absurd (omega (arith, ltb-true y 256 j));
-    }
+    pub place_found : b ≤ n → is_at l y k ≡ true → PlaceFound end last first rank prefix n old new l k (record { step = b; path = y })
+    place_found h e = record { place = h; path = landed; near = e; first_such = none.each }
 
-  pub no_place : {b : ℕ} → NoneBefore b → n < b → NearestPlace end last first rank prefix n old new l k (record { step = 0; path = 256 })
-  no_place none h = record { found = λ i. absurd (omega arith); none = λ _ a i. none.each a (omega arith) }
+  pub no_place : {b : ℕ} → NoneBefore b → n < b → NoPlace end last first rank prefix n old new l k
+  no_place none h = record { none = λ a i. none.each a (omega arith) }
 
 -- ---- steps passed over
 
@@ -91,12 +88,8 @@ pub equation-count : (t : Schema) → length (schema_of t).equations ≡ t.equat
 equation-count t = tabulate-length t.equations (λ i. equation_of (get_or t.left i no_path) (get_or t.right i no_path))
 
 -- all equations
-pub none_done : {S : meaning.Schema} {l : List ℕ} {x k q : ℕ} → NoneBelow S l x k q → length S.equations ≤ q → NearestStep S l x k (record { step = 0; path = 256 })
-none_done {S} {l} {x} {k} {q} below all = record {
-  low = omega arith;
-  found = λ h. absurd (omega arith);
-  none = λ h u e. below.each u e (omega (arith, (numbers-in S (path_at S.graph x) u e).0));
-}
+pub none_done : {S : meaning.Schema} {l : List ℕ} {x k q : ℕ} → NoneBelow S l x k q → length S.equations ≤ q → NoStep S l x k
+none_done {S} {l} {x} {k} {q} below all = record { none = λ u e. below.each u e (omega (arith, (numbers-in S (path_at S.graph x) u e).0)) }
 
 -- ---- the places of one equation in one direction
 
@@ -135,47 +128,38 @@ module _ {t : Schema} {p : Paths} {x : ℕ} {prefix : List ℕ} {n : ℕ} (ready
     size_is : n ≡ length_of S.graph x
     size_is = ready.size ∙ ready.table.columns.length.each x ready.x_in
 
-    module _ {l : List ℕ} {k : ℕ} {r : Move} (near : NearestPlace p.end p.last p.first p.rank prefix n (old_of t q d) (new_of t q d) l k r) where
-      -- a step along them lands at its place
-      at_place : (u : Step) → u.equation ≡ q → u.direction ≡ d → u.before ≤ n → is_at l (step_number S x u) k ≡ is_at l (landed u.before) k
-      at_place u f g i =
-          let w : u ≡ numbered u.before = λ j. record { equation = f j; direction = g j; before = u.before } in
-          ap (λ (v : Step). is_at l (step_number S x v) k) w ∙ ap (λ (y : ℕ). is_at l y k) (sym (landed-is u.before i))
+    -- a step along them lands at its place
+    at_place : (l : List ℕ) (k : ℕ) (u : Step) → u.equation ≡ q → u.direction ≡ d → u.before ≤ n → is_at l (step_number S x u) k ≡ is_at l (landed u.before) k
+    at_place l k u f g i =
+        let w : u ≡ numbered u.before = λ j. record { equation = f j; direction = g j; before = u.before } in
+        ap (λ (v : Step). is_at l (step_number S x v) k) w ∙ ap (λ (y : ℕ). is_at l y k) (sym (landed-is u.before i))
 
-      pub none-along : 256 ≤ r.path → NoneAlong S l x k q d
-      none-along h = record { each = λ u e f g. let i : u.before ≤ n = omega (arith, size_is, (numbers-in S (path_at S.graph x) u e).2) in at_place u f g i ∙ near.none h u.before i }
+    module _ {l : List ℕ} {k : ℕ} where
+      pub none-along : NoPlace p.end p.last p.first p.rank prefix n (old_of t q d) (new_of t q d) l k → NoneAlong S l x k q d
+      none-along near = record { each = λ u e f g. let i : u.before ≤ n = omega (arith, size_is, (numbers-in S (path_at S.graph x) u e).2) in at_place l k u f g i ∙ near.none u.before i }
 
-      pub place-low : r.path < 256 → r.step ≤ 15
-      place-low h = omega (arith, (near.found h).place, size_low)
+      module _ {r : Move} (here : PlaceFound p.end p.last p.first p.rank prefix n (old_of t q d) (new_of t q d) l k r) where
+        pub place-low : r.step ≤ 15
+        place-low = omega (arith, here.place, size_low)
 
-      -- the first such place is of the least step
-      pub found-along : r.path < 256 → NoneBelow S l x k q → ((e : ℕ) → e < d → NoneAlong S l x k q e) → (step : ℕ) → step ≡ 32 * q + 16 * d + r.step
-          → NearestStep S l x k (record { step = step; path = r.path })
-      found-along h below along step code = record {
-        low = omega (arith, code, place-low h, ready.sound.limits.equations);
-        found = λ _. least;
-        none = λ e. absurd (omega arith);
-      }
-        where
-          here : PlaceFound p.end p.last p.first p.rank prefix n (old_of t q d) (new_of t q d) l k r
-          here = near.found h
+        -- the first such place is of the least step
+        pub found-along : NoneBelow S l x k q → ((e : ℕ) → e < d → NoneAlong S l x k q e) → (step : ℕ) → step ≡ 32 * q + 16 * d + r.step → StepFound S l x k (record { step = step; path = r.path })
+        found-along below along step code = record {
+          low = omega (arith, code, place-low, ready.sound.limits.equations);
+          numbered = subst (λ (u : Step). is_numbered S (path_at S.graph x) u ≡ true) (sym step_is) is-numbered;
+          path = here.path ∙ landed-is r.step here.place ∙ ap (step_number S x) (sym step_is);
+          near = here.near;
+          first_such = λ u e b. before u e (subst (StepBefore u) step_is b);
+        }
+          where
+            step_is : step_of step ≡ numbered r.step
+            step_is = ap step_of code ∙ step-of q d r.step d-in (omega (arith, place-low))
 
-          step_is : step_of step ≡ numbered r.step
-          step_is = ap step_of code ∙ step-of q d r.step d-in (omega (arith, place-low h))
+            is-numbered : is_numbered S (path_at S.graph x) (numbered r.step) ≡ true
+            is-numbered = and_intro (and_intro (lt-ltb q (length S.equations) (omega (arith, equation-count t))) (lt-ltb d 2 d-in)) (le-leb r.step (length_of S.graph x) (omega (arith, here.place, size_is)))
 
-          is-numbered : is_numbered S (path_at S.graph x) (numbered r.step) ≡ true
-          is-numbered = and_intro (and_intro (lt-ltb q (length S.equations) (omega (arith, equation-count t))) (lt-ltb d 2 d-in)) (le-leb r.step (length_of S.graph x) (omega (arith, here.place, size_is)))
-
-          before : (u : Step) → is_numbered S (path_at S.graph x) u ≡ true → StepBefore u (numbered r.step) → is_at l (step_number S x u) k ≡ false
-          before u e (inl a) = below.each u e a
-          before u e (inr (a, inl b)) = (along u.direction b).each u e a refl
-          before u e (inr (a, inr (b, inl c))) = at_place u a b (omega (arith, here.place)) ∙ here.first_such u.before c
-          before u e (inr (a, inr (b, inr (c, z)))) = absurd z
-
-          least : StepFound S l x k (record { step = step; path = r.path })
-          least = record {
-            numbered = subst (λ (u : Step). is_numbered S (path_at S.graph x) u ≡ true) (sym step_is) is-numbered;
-            path = here.path ∙ landed-is r.step here.place ∙ ap (step_number S x) (sym step_is);
-            near = here.near;
-            first_such = λ u e b. before u e (subst (StepBefore u) step_is b);
-          }
+            before : (u : Step) → is_numbered S (path_at S.graph x) u ≡ true → StepBefore u (numbered r.step) → is_at l (step_number S x u) k ≡ false
+            before u e (inl a) = below.each u e a
+            before u e (inr (a, inl b)) = (along u.direction b).each u e a refl
+            before u e (inr (a, inr (b, inl c))) = at_place l k u a b (omega (arith, here.place)) ∙ here.first_such u.before c
+            before u e (inr (a, inr (b, inr (c, z)))) = absurd z

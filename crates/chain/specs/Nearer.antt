@@ -1,5 +1,5 @@
 -- The least step that comes nearer, and the chain of such steps.
-use Rattle.std.specs.Prelude.{ℕ, ◌<◌, ◌≤◌, ◌≡◌, Bool, true, false, ◌&&◌, List, map, get_or, ltb, eqb}
+use Rattle.std.specs.Prelude.{ℕ, ◌<◌, ◌≤◌, ◌≡◌, Bool, true, false, ◌&&◌, List, map, get_or, ltb, eqb, Option, Some, None}
 use Rattle.std.proofs.Math.Option.{some}
 use Rattle.meaning.specs.Lists as lists
 use Rattle.meaning.specs.Schema as meaning
@@ -25,22 +25,28 @@ module _ (end last first rank prefix : List ℕ) (n : ℕ) (old new : Path) (l :
     pub near : is_at l r.path k ≡ true
     pub first_such : (b : ℕ) → b < r.step → is_at l (landing_at end last first rank prefix n old new b) k ≡ false
 
-  pub record NearestPlace (r : Move) : Type 0 where
-    pub found : r.path < 256 → PlaceFound r
-    pub none : 256 ≤ r.path → (b : ℕ) → b ≤ n → is_at l (landing_at end last first rank prefix n old new b) k ≡ false
+  pub record NoPlace : Type 0 where
+    pub none : (b : ℕ) → b ≤ n → is_at l (landing_at end last first rank prefix n old new b) k ≡ false
+
+  abbrev pub NearestPlace : Option Move → Type 0
+  NearestPlace None = NoPlace
+  NearestPlace (Some r) = PlaceFound r
 
 -- the least step of path x that makes a path k steps away
 module _ (S : meaning.Schema) (l : List ℕ) (x k : ℕ) where
   pub record StepFound (r : Move) : Type 0 where
+    pub low : r.step < 1024
     pub numbered : is_numbered S (path_at S.graph x) (step_of r.step) ≡ true
     pub path : r.path ≡ step_number S x (step_of r.step)
     pub near : is_at l r.path k ≡ true
     pub first_such : (u : Step) → is_numbered S (path_at S.graph x) u ≡ true → StepBefore u (step_of r.step) → is_at l (step_number S x u) k ≡ false
 
-  pub record NearestStep (r : Move) : Type 0 where
-    pub low : r.step < 1024
-    pub found : r.path < 256 → StepFound r
-    pub none : 256 ≤ r.path → (u : Step) → is_numbered S (path_at S.graph x) u ≡ true → is_at l (step_number S x u) k ≡ false
+  pub record NoStep : Type 0 where
+    pub none : (u : Step) → is_numbered S (path_at S.graph x) u ≡ true → is_at l (step_number S x u) k ≡ false
+
+  abbrev pub NearestStep : Option Move → Type 0
+  NearestStep None = NoStep
+  NearestStep (Some r) = StepFound r
 
 -- path x is n steps away from some path, and the list has the distances up to it
 pub record Descends (S : meaning.Schema) (l : List ℕ) (x n : ℕ) : Type 0 where

@@ -17,13 +17,13 @@ use nearer::descend;
 use paths::classes::same_class;
 use paths::path_table;
 use paths::walk::path_number;
-use schema::numbers::index;
 use schema::{Path, Schema};
 
 // The most steps that a chain has: one fewer than there are paths.
 pub const STEPS: usize = 255;
 
 // The number of steps that is given for no chain.
+// Kept: a number for no chain is what the crates above are promised.
 pub const NONE: usize = 256;
 
 // The first of the shortest chains from path a to path b: each step as one number, of 5, 1 and 4 bits, and how many there are, or NONE.
@@ -36,8 +36,8 @@ pub fn first_chain(t: Schema, a: Path, b: Path, steps: &mut [u32]) -> usize
     let y = path_number(p, b);
     if same_class(&p.class, x, y) {
         let d = find_distances(t, p, x, y);
-        let n = index(d.of[x]);
-        descend(t, p, &d.of, x, n, &mut *steps);
+        let n = usize::from(d.of[x]);
+        descend(t, p, &d.of, x, n, steps);
         return n;
     }
     NONE

@@ -6,12 +6,11 @@ ghost use Rattle.paths.specs.Classes.{IsPaths};
 ghost use Rattle.chain.specs.Places.{LandsIn};
 ghost use Rattle.chain.specs.Nearer.{is_at, NearestPlace, NearestStep, Descends, Descended};
 
-use crate::places::{NO_PATH, landing, prefixes};
+use crate::places::{landing, prefixes};
 use paths::Paths;
-use schema::numbers::{index, wide};
 use schema::{Path, Schema};
 
-// A step as one number, and the path that it makes; of a place, the number of edges before it. NO_PATH where there is none.
+// A step as one number, and the path that it makes; of a place, the number of edges before it.
 #[derive(Clone, Copy)]
 pub struct Move {
     pub step: usize,
@@ -22,81 +21,60 @@ pub struct Move {
 fn is_at(of: &[u16; Schema::PATHS], y: usize, k: usize) -> bool
     ensures { result ≡ is_at of.now y k }
 {
-    if y < Schema::PATHS {
-        return index(of[y]) == k;
-    }
-    false
+    y < Schema::PATHS && usize::from(of[y]) == k
 }
 
 // The first place of a path of n edges at which old can be replaced by new so that the path made is k steps away.
-fn nearer_place<'a>(
-    end: &'a [u8; Schema::PATHS],
-    last: &'a [u8; Schema::PATHS],
-    first: &'a [u16; Schema::PATHS + 1],
-    rank: &'a [u8; Schema::EDGES],
-    prefix: &'a [u8; Path::EDGES],
+fn nearer_place(
+    p: &Paths,
+    prefix: &[u8; Path::EDGES],
     n: usize,
     old: Path,
     new: Path,
-    of: &'a [u16; Schema::PATHS],
+    of: &[u16; Schema::PATHS],
     k: usize,
-) -> Move
-    requires { LandsIn end.now last.now first.now rank.now prefix.now n old new }
-    ensures { NearestPlace end.now last.now first.now rank.now prefix.now n old new of.now k result }
+) -> Option<Move>
+    requires { LandsIn p.now.end p.now.last p.now.first p.now.rank prefix.now n old new }
+    ensures { NearestPlace p.now.end p.now.last p.now.first p.now.rank prefix.now n old new of.now k result }
 {
-    let mut b = 0;
-    while b <= n {
-        let y = landing(end, last, first, rank, prefix, n, old, new, b);
-        if is_at(of, y, k) {
-            return Move { step: b, path: y };
+    for b in 0..=n {
+        if let Some(path) = landing(p, prefix, n, old, new, b) {
+            if is_at(of, path, k) {
+                return Some(Move { step: b, path });
+            }
         }
-        b += 1;
     }
-    Move {
-        step: 0,
-        path: NO_PATH,
-    }
+    None
 }
 
 // The least step of path x that makes a path k steps away.
-fn nearer_step(t: Schema, p: Paths, of: &[u16; Schema::PATHS], x: usize, k: usize) -> Move
+fn nearer_step(t: Schema, p: Paths, of: &[u16; Schema::PATHS], x: usize, k: usize) -> Option<Move>
     requires { Sound t × IsPaths (schema_of t) p × (x < p.count) }
     ensures { NearestStep (schema_of t) of.now x k result }
 {
     let lefts = t.left;
     let rights = t.right;
-    let n = wide(p.length[x]);
-    let prefix = prefixes(&p.length, &p.parent, x);
-    let mut q = 0;
-    while q < t.equations {
+    let n = usize::from(p.length[x]);
+    let prefix = prefixes(&p, x);
+    for q in 0..t.equations {
         let left = lefts[q];
         let right = rights[q];
-        let there = nearer_place(
-            &p.end, &p.last, &p.first, &p.rank, &prefix, n, left, right, of, k,
-        );
-        if there.path < NO_PATH {
+        if let Some(there) = nearer_place(&p, &prefix, n, left, right, of, k) {
             let step = 32 * q + there.step;
-            return Move {
-                step: step,
+            return Some(Move {
+                step,
                 path: there.path,
-            };
+            });
         }
-        let back = nearer_place(
-            &p.end, &p.last, &p.first, &p.rank, &prefix, n, right, left, of, k,
-        );
-        if back.path < NO_PATH {
+        if let Some(back) = nearer_place(&p, &prefix, n, right, left, of, k) {
             let step = 32 * q + 16 + back.step;
-            return Move {
-                step: step,
+            return Some(Move {
+                step,
                 path: back.path,
-            };
+            });
         }
-        q += 1;
     }
-    Move {
-        step: 0,
-        path: NO_PATH,
-    }
+    None
 }
 
 // The n steps from path x, which is n steps away, down the levels.
@@ -112,11 +90,11 @@ pub fn descend(
     ensures { Descended (schema_of t) of.now x n steps.new }
 {
     let mut at = x;
-    let mut i = 0;
-    while i < n {
-        let nearest = nearer_step(t, p, of, at, n - i - 1);
+    for i in 0..n {
+        let Some(nearest) = nearer_step(t, p, of, at, n - i - 1) else {
+            return;
+        };
         steps[i] = nearest.step as u32;
         at = nearest.path;
-        i += 1;
     }
 }

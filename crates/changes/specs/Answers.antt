@@ -1,16 +1,20 @@
 -- What the answer of a change says, and the trays that it leaves.
-use Rattle.std.specs.Prelude.{ℕ, ◌≤◌, List}
+use Rattle.std.specs.Prelude.{ℕ, ◌≤◌, List, Result, IfOk}
 use Rattle.meaning.specs.Formats.{max_instance_bytes}
-use Rattle.meaning.specs.Calls.{Outcome, refused, accepted}
+use Rattle.meaning.specs.Calls.{Outcome}
 use Rattle.meaning.specs.Changes.{Trays}
 use Rattle.migration.specs.Answers.{encoded, lengths_number}
-use Rattle.changes.specs.declared.Changed.{Changed}
-use Rattle.changes.specs.declared.Changed.TheVariants as changed
+use Rattle.steps.specs.declared.Refusal.{Refusal}
+use Rattle.steps.specs.Answers.{outcome_of}
+use Rattle.changes.specs.declared.Lengths.{Lengths}
+
+-- the answer of a change
+abbrev pub Changed : Type 0
+Changed = Result Lengths Refusal
 
 -- the byte lengths of the run and of the pushed sheet
 abbrev pub changed_of : Changed → Outcome (ℕ × ℕ)
-changed_of (changed.Lengths n k) = accepted (n, k)
-changed_of (changed.Refused r) = refused r.number r.place
+changed_of r = outcome_of (λ x. (x.run, x.pushed)) r
 
 abbrev pub trays_of : Changed → List ℕ → List ℕ → Trays
 trays_of r run pushed = record { answer = changed_of r; run = run; pushed = pushed }
@@ -19,8 +23,7 @@ trays_of r run pushed = record { answer = changed_of r; run = run; pushed = push
 
 -- byte lengths of instance sheets
 abbrev pub LengthsWithin : Changed → Type 0
-LengthsWithin (changed.Lengths n k) = (n ≤ max_instance_bytes) × (k ≤ max_instance_bytes)
-LengthsWithin (changed.Refused r) = Unit {0}
+LengthsWithin r = IfOk r (λ x. (x.run ≤ max_instance_bytes) × (x.pushed ≤ max_instance_bytes))
 
 -- an answer as one number, and both trays
 abbrev pub returned : Trays → ℕ × List ℕ × List ℕ

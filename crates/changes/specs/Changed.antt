@@ -1,22 +1,18 @@
 -- A changed run in working arrays, with Sigma's tables of it, and what is made of both.
-use Rattle.std.specs.Prelude.{ℕ, ◌≡◌, true, List, take}
+use Rattle.std.specs.Prelude.{ℕ, ◌≡◌, List, take, Result, IfOk}
 use Rattle.meaning.specs.Schema as meaning
 use Rattle.meaning.specs.Formats as formats
 use Rattle.meaning.specs.Formats.{instance_sheet}
-use Rattle.meaning.specs.Evenness.{even}
-use Rattle.meaning.specs.Sigma.{sigma}
 use Rattle.meaning.specs.Calls.{Outcome, accepted, ◌>>=◌, Migration, migration}
 use Rattle.meaning.specs.Changes.{Sheets, addition, withdrawal, sheets_of, Trays, in_trays}
 use Rattle.schema.specs.declared.Schema.{Schema}
-use Rattle.schema.specs.Decoded.{category_of}
 use Rattle.schema.specs.Judged.{Sound}
-use Rattle.mapping.specs.Decoded.{mapping_of}
 use Rattle.instance.specs.declared.Instance.{Instance}
 use Rattle.instance.specs.Decoded.{tables_of, Limits, RoomFor}
 use Rattle.instance.specs.Tested.{Accepted}
+use Rattle.steps.specs.declared.Refusal.{Refusal}
 use Rattle.steps.specs.declared.open.Opened.{Opened}
 use Rattle.steps.specs.Answers.{outcome_of}
-use Rattle.steps.specs.Opened.{Ready}
 use Rattle.meaning.specs.Changes.{even_run}
 use Rattle.changes.specs.declared.results.Change.{Change}
 use Rattle.changes.specs.declared.tables.Kind.{Kind}
@@ -45,10 +41,10 @@ pub record AcceptedRun (t : Schema) (i : Instance) (links values : List ℕ) : T
   pub limits : Limits t i
   pub accepted : Accepted t i links values
 
--- the tables after a change, or the number with which it is refused at place 0
-pub record ChangesTo (t : Schema) (i : Instance) (links values : List ℕ) (X : Outcome formats.Instance) : Type 0 where
-  pub says : outcome_of (record { number = i.fault; place = 0 }) (tables_of t i links values) ≡ X
-  pub run : (i.fault ≡ 0 → AcceptedRun t i links values)
+-- the tables after a change, or its refusal
+pub record ChangesTo (t : Schema) (r : Result Instance Refusal) (links values : List ℕ) (X : Outcome formats.Instance) : Type 0 where
+  pub says : outcome_of (λ i. tables_of t i links values) r ≡ X
+  pub run : IfOk r (λ i. AcceptedRun t i links values)
 
 -- the run's arrays, and others for the added row and for Sigma
 pub record Rooms (o : Opened) (run-links run-values links values : List ℕ) : Type 0 where
@@ -66,25 +62,12 @@ sheets_in o x run-links run-values links values = record {
 pub record Writable (o : Opened) (x : Change) (run-links run-values links values : List ℕ) : Type 0 where
   pub source : Sound o.source
   pub target : Sound o.target
-  pub run_limits : (x.refusal.number ≡ 0 → Limits o.source x.run)
-  pub pushed_limits : (x.refusal.number ≡ 0 → Limits o.target x.pushed)
+  pub run_limits : Limits o.source x.run
+  pub pushed_limits : Limits o.target x.pushed
   pub run_room : RoomFor o.source run-links run-values
   pub pushed_room : RoomFor o.target links values
 
-pub record Changes (o : Opened) (x : Change) (run-links run-values links values : List ℕ) (X : Outcome Sheets) : Type 0 where
-  pub says : outcome_of x.refusal (sheets_in o x run-links run-values links values) ≡ X
-  pub writable : Writable o x run-links run-values links values
-
--- ---- Sigma of a changed run
-
--- what it relies on
-pub record ChangedRun (o : Opened) (run : Instance) (links values : List ℕ) : Type 0 where
-  pub ready : Ready o
-  pub is-even : even (category_of o.source) (category_of o.target) (mapping_of o.source o.mapping) ≡ true
-  pub accepted : AcceptedRun o.source run links values
-
-pub record Pushes (o : Opened) (run : Instance) (run-links run-values : List ℕ) (x : Change) (links values : List ℕ) : Type 0 where
-  pub none : x.refusal.number ≡ 0
-  pub same : x.run ≡ run
-  pub says : tables_of o.target x.pushed links values ≡ sigma (category_of o.source) (category_of o.target) (mapping_of o.source o.mapping) (tables_of o.source run run-links run-values)
-  pub limits : Limits o.target x.pushed
+-- both sheets after a change, or its refusal
+pub record Changes (o : Opened) (r : Result Change Refusal) (run-links run-values links values : List ℕ) (X : Outcome Sheets) : Type 0 where
+  pub says : outcome_of (λ x. sheets_in o x run-links run-values links values) r ≡ X
+  pub writable : IfOk r (λ x. Writable o x run-links run-values links values)

@@ -1,7 +1,8 @@
 // The changes of lent sheets, into two lent trays.
-ghost use Rattle.std.specs.Prelude.{◌≡◌, true, take};
+ghost use Rattle.std.specs.Prelude.{◌≡◌, take};
+ghost use Rattle.meaning.specs.Calls.{accepted};
 ghost use Rattle.meaning.specs.Changes.{in_trays, add_row, withdraw_row};
-ghost use Rattle.steps.specs.Opened.{opened_of, have_few_columns, IsOpened};
+ghost use Rattle.steps.specs.Opened.{migration_of, Ready, RoomsIn};
 ghost use Rattle.changes.specs.Answers.{trays_of};
 ghost use Rattle.changes.specs.Changed.{changed_sheets, changed_trays};
 
@@ -11,83 +12,43 @@ use crate::tables::{Kind, change_tables};
 use instance::Instance;
 use steps::open::{Opened, have_few_columns, open};
 
-// A change, written, for schemas with few columns.
-fn change_few(
+// A change, written, with working arrays of these lengths.
+fn change_in<const LINKS: usize, const VALUES: usize>(
     kind: Kind,
-    opened: Opened,
+    opened: &Opened,
     run: &mut [u8],
     run_length: usize,
     table: usize,
     row: &[u8],
     pushed: &mut [u8],
 ) -> Changed
-    requires { IsOpened opened × (have_few_columns opened ≡ true) }
-    ensures { trays_of result run.new pushed.new ≡ in_trays run.old pushed.old (changed_sheets kind (opened_of opened) (take run_length run.old) table row.now) }
+    requires { Ready opened.now × RoomsIn opened.now LINKS VALUES }
+    ensures { trays_of result run.new pushed.new ≡ in_trays run.old pushed.old (changed_sheets kind (accepted (migration_of opened.now)) (take run_length run.old) table row.now) }
 {
-    let mut run_links = [0u32; Instance::FEW_LINKS];
-    let mut run_values = [0u32; Instance::FEW_VALUES];
-    let mut links = [0u32; Instance::FEW_LINKS];
-    let mut values = [0u32; Instance::FEW_VALUES];
+    let mut run_links = [0u32; LINKS];
+    let mut run_values = [0u32; VALUES];
+    let mut links = [0u32; LINKS];
+    let mut values = [0u32; VALUES];
     let change = change_tables(
         kind,
         opened,
-        front(&*run, run_length),
+        front(run, run_length),
         table,
         row,
         &mut run_links,
         &mut run_values,
         &mut links,
         &mut values,
-    );
+    )?;
     write_change(
         opened,
-        change,
+        &change,
         &run_links,
         &run_values,
         &links,
         &values,
-        &mut *run,
-        &mut *pushed,
-    )
-}
-
-// The same for any schemas.
-fn change_any(
-    kind: Kind,
-    opened: Opened,
-    run: &mut [u8],
-    run_length: usize,
-    table: usize,
-    row: &[u8],
-    pushed: &mut [u8],
-) -> Changed
-    requires { IsOpened opened }
-    ensures { trays_of result run.new pushed.new ≡ in_trays run.old pushed.old (changed_sheets kind (opened_of opened) (take run_length run.old) table row.now) }
-{
-    let mut run_links = [0u32; Instance::LINKS];
-    let mut run_values = [0u32; Instance::VALUES];
-    let mut links = [0u32; Instance::LINKS];
-    let mut values = [0u32; Instance::VALUES];
-    let change = change_tables(
-        kind,
-        opened,
-        front(&*run, run_length),
-        table,
-        row,
-        &mut run_links,
-        &mut run_values,
-        &mut links,
-        &mut values,
-    );
-    write_change(
-        opened,
-        change,
-        &run_links,
-        &run_values,
-        &links,
-        &values,
-        &mut *run,
-        &mut *pushed,
+        run,
+        pushed,
     )
 }
 
@@ -105,27 +66,16 @@ fn change_run(
 ) -> Changed
     ensures { trays_of result run.new pushed.new ≡ changed_trays kind s.now t.now f.now run.old run_length table row.now pushed.old }
 {
-    let opened = open(s, t, f);
-    if have_few_columns(opened) {
-        return change_few(
-            kind,
-            opened,
-            &mut *run,
-            run_length,
-            table,
-            row,
-            &mut *pushed,
-        );
+    let opened = open(s, t, f)?;
+    if have_few_columns(&opened) {
+        change_in::<{ Instance::FEW_LINKS }, { Instance::FEW_VALUES }>(
+            kind, &opened, run, run_length, table, row, pushed,
+        )
+    } else {
+        change_in::<{ Instance::LINKS }, { Instance::VALUES }>(
+            kind, &opened, run, run_length, table, row, pushed,
+        )
     }
-    change_any(
-        kind,
-        opened,
-        &mut *run,
-        run_length,
-        table,
-        row,
-        &mut *pushed,
-    )
 }
 
 // Adds a row to a table of the run, an instance of s, and pushes the run along the even mapping f from s to t: writes the changed run into its tray and Sigma of
@@ -143,17 +93,7 @@ pub fn add_row(
 ) -> Changed
     ensures { trays_of result run.new pushed.new ≡ add_row s.now t.now f.now run.old run_length table row.now pushed.old }
 {
-    change_run(
-        Kind::Add,
-        s,
-        t,
-        f,
-        &mut *run,
-        run_length,
-        table,
-        row,
-        &mut *pushed,
-    )
+    change_run(Kind::Add, s, t, f, run, run_length, table, row, pushed)
 }
 
 // Withdraws a row from a table of the run, as add_row adds one: later rows of that table move down by one, links included. Refuses as add_row does before the
@@ -170,16 +110,6 @@ pub fn withdraw_row(
 ) -> Changed
     ensures { trays_of result run.new pushed.new ≡ withdraw_row s.now t.now f.now run.old run_length table row pushed.old }
 {
-    let none = [0u8; 1];
-    change_run(
-        Kind::Withdraw(row),
-        s,
-        t,
-        f,
-        &mut *run,
-        run_length,
-        table,
-        &none,
-        &mut *pushed,
-    )
+    let kind = Kind::Withdraw(row);
+    change_run(kind, s, t, f, run, run_length, table, &[], pushed)
 }

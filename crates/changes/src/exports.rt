@@ -15,8 +15,8 @@ fn changed_number(changed: Changed) -> u64
     ensures { result ≡ encoded (lengths_number (changed_of changed)) }
 {
     match changed {
-        Changed::Lengths(run, pushed) => 65536 * (run as u64) + pushed as u64,
-        Changed::Refused(refusal) => refusal_number(refusal),
+        Ok(lengths) => 65536 * (lengths.run as u64) + lengths.pushed as u64,
+        Err(refusal) => refusal_number(refusal),
     }
 }
 
@@ -37,11 +37,11 @@ pub extern "C" fn migration_add_row(
         s,
         t,
         f,
-        &mut *run,
+        run,
         run_length as usize,
         table as usize,
         row,
-        &mut *pushed,
+        pushed,
     ))
 }
 
@@ -62,10 +62,10 @@ pub extern "C" fn migration_withdraw_row(
         s,
         t,
         f,
-        &mut *run,
+        run,
         run_length as usize,
         table as usize,
         row as usize,
-        &mut *pushed,
+        pushed,
     ))
 }

@@ -9,9 +9,12 @@ mod tables;
 pub use calls::{add_row, withdraw_row};
 use steps::Refusal;
 
-// The answer of a change: the byte lengths of the run and of the pushed sheet.
-#[derive(Clone, Copy)]
-pub enum Changed {
-    Lengths(usize, usize),
-    Refused(Refusal),
+// The byte lengths of the run's sheet and of the pushed one.
+#[derive(Clone, Copy, Debug, PartialEq, Eq)]
+pub struct Lengths {
+    pub run: usize,
+    pub pushed: usize,
 }
+
+// The answer of a change.
+pub type Changed = Result<Lengths, Refusal>;

@@ -4,13 +4,16 @@ use mathlib.Core.Path.{◌≡◌, sym, ap, ap₂, ◌∙◌}
 use mathlib.Core.List.{List, [], ◌∷◌, ◌++◌, map, append-nil}
 use native.Mathlib.Omega.{arith}
 use native.Mathlib.Numerals.{add-one}
-use lib.ListN.{length, get_or, length-append}
+use lib.ListN.{length, get_or, take, length-append}
+use borrow.Author.Rules.{rules}
+use borrow.Rule.Slice.PartMut.{put_mid}
+use Rattle.std.proofs.lemmas.List.{places}
 use Rattle.theory.specs.Numbering.{tabulate}
 use Rattle.theory.proofs.Numbering.{tabulate-length, tabulate-get_or}
 use Rattle.theory.proofs.Mapping.{image-append}
 use Rattle.meaning.proofs.Tabulate.{tabulate-more, tabulate-same, tabulate-plus, map-tabulate}
 use Rattle.schema.specs.Decoded.{front_of}
-use Rattle.instance.specs.Stored.{Counts, Stored}
+use Rattle.instance.specs.Stored.{Counts}
 use Rattle.mapping.specs.declared.Image.{Image}
 use Rattle.mapping.specs.Decoded.{image_of, no_image}
 use Rattle.mapping.specs.Judged.{joined_images}
@@ -21,9 +24,11 @@ looked-up {n} {m} l image b u =
     tabulate-same n (λ i h. u.each i h ∙ sym (tabulate-get_or m (λ j. get_or image j 0) 0 (get_or l i 0) (b.each i h)))
     ∙ sym (map-tabulate (λ c. get_or (front_of m image) c 0) n (λ i. get_or l i 0))
 
-pub stored-behind : {g : ℕ → ℕ} {n base : ℕ} {l r : List ℕ} → Stored g n base l r → front_of (base + n) r ≡ front_of base l ++ tabulate n g
-stored-behind {g} {n} {base} {l} {r} u =
-    tabulate-plus base n (λ i. get_or r i 0) ∙ ap₂ (λ (a b : List ℕ). a ++ b) (tabulate-same base u.below) (tabulate-same n u.each)
+-- n numbers are written behind the first ones
+pub written-behind : (base n : ℕ) (xs ys : List ℕ) → base + n ≤ length xs → n ≤ length ys → front_of (base + n) (put_mid base n xs (take n ys)) ≡ front_of base xs ++ front_of n ys
+written-behind base n xs ys h l =
+    tabulate-plus base n (λ i. get_or (put_mid base n xs (take n ys)) i 0)
+    ∙ ap₂ (λ (a b : List ℕ). a ++ b) (tabulate-same base (λ i k. search (rules, places))) (tabulate-same n (λ i k. search (rules, places)))
 
 pub image-length : (i : Image) → length (image_of i) ≡ i.length
 image-length i = tabulate-length i.length (λ k. get_or i.edges k 0)

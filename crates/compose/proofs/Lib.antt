@@ -2,4 +2,3 @@
 pub mod Joining
 pub mod SheetFields
 pub mod Composing
-pub mod Opening

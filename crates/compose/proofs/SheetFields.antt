@@ -4,15 +4,18 @@ use mathlib.Core.Path.{◌≡◌, refl, sym, ap, ap₂, ◌∙◌}
 use mathlib.Core.List.{List, [], ◌∷◌, ◌++◌, append-nil}
 use native.Mathlib.Omega.{arith}
 use native.Mathlib.Numerals.{add-one}
-use lib.ListN.{length, drop, get_or, replicate}
+use lib.ListN.{length, drop, take, get_or, replicate}
+use Rattle.std.specs.List.{sum_by}
+use Rattle.std.proofs.lemmas.List.{get_or-take, length-take-le}
+use Rattle.std.proofs.lemmas.List.Recursion.{is_sum_by}
 use Rattle.bits.specs.Field.{bytes_for}
 use Rattle.bits.specs.Pack.{total_width}
 use Rattle.bits.specs.Put.{put_all}
 use Rattle.bits.proofs.Writing.{put_all-append}
 use Rattle.bits.proofs.Packing.{length-pack, total_width-append}
-use Rattle.meaning.specs.Lists.{concat_map}
+use Rattle.meaning.specs.Lists.{sum_of, concat_map}
 use Rattle.meaning.specs.Formats.{fields_of, edges_fields, mapping_sheet}
-use Rattle.meaning.proofs.Tabulate.{tabulate-more}
+use Rattle.meaning.proofs.Tabulate.{tabulate-more, tabulate-same}
 use Rattle.meaning.proofs.PathLevels.{concat_map-append}
 use Rattle.schema.specs.declared.Schema.{Schema}
 use Rattle.schema.specs.Decoded.{front_of}
@@ -64,6 +67,31 @@ module _ (edge : List Image) where
       ap (put_all s at) (fields-more n)
       ∙ put_all-append s at (images_fields n) (edges_fields (image_of (get_or edge n no_image)))
       ∙ ap (λ (w : ℕ). put_all (put_all s at (images_fields n)) (at + w) (edges_fields (image_of (get_or edge n no_image)))) (images-width n)
+
+-- ---- images as a slice lends them
+-- the sum of their bits
+pub bits-sum : (l : List Image) → sum_by (λ i. 4 + 5 * i.length) l ≡ images_bits (length l) l
+bits-sum l = sym (is_sum_by (λ l. images_bits (length l) l) (λ i. 4 + 5 * i.length) refl (λ x xs. refl) l)
+
+-- the first n of an array
+module _ (edge : List Image) (n : ℕ) (h : n ≤ length edge) where
+  abbrev lent : List Image
+  lent = take n edge
+
+  pub lent-length : length lent ≡ n
+  lent-length = length-take-le n edge h
+
+  lent-at : (i : ℕ) → i < n → get_or lent i no_image ≡ get_or edge i no_image
+  lent-at i l = get_or-take n edge i no_image l
+
+  pub lent-bits : images_bits (length lent) lent ≡ images_bits n edge
+  lent-bits = ap (λ (m : ℕ). images_bits m lent) lent-length ∙ ap sum_of (tabulate-same n (λ i l. ap (λ (x : Image). 4 + 5 * x.length) (lent-at i l)))
+
+  pub lent-images : images_of (length lent) lent ≡ images_of n edge
+  lent-images = ap (λ (m : ℕ). images_of m lent) lent-length ∙ tabulate-same n (λ i l. ap image_of (lent-at i l))
+
+  pub lent-short : Short n edge → Short (length lent) lent
+  lent-short u = record { each = λ i l. let k : i < n = omega (arith, l, lent-length) in rw (lent-at i k) (u.each i k) }
 
 -- ---- nodes, edges and attributes
 module _ (s : Schema) (f : Mapping) where

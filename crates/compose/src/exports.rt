@@ -18,5 +18,5 @@ pub extern "C" fn migration_compose(
 ) -> u64
     ensures { (result, tray.new) ≡ returned (in_tray tray.old (meaning.compose s.now t.now u.now f.now g.now)) }
 {
-    written_number(compose(s, t, u, f, g, &mut *tray))
+    written_number(compose(s, t, u, f, g, tray))
 }

@@ -7,23 +7,20 @@ ghost use Rattle.compose.specs.Composed.{Below, Joinable, EdgesJoinable, IsJoine
 
 use mapping::{Image, Mapping};
 use schema::Schema;
-use schema::numbers::wide;
 
 // The images of n numbers below the length of a list of images.
-fn images_of<'a>(
-    l: &'a [u8; Schema::NODES],
+fn images_of(
+    l: &[u8; Schema::NODES],
     n: usize,
-    image: &'a [u8; Schema::NODES],
+    image: &[u8; Schema::NODES],
     m: usize,
 ) -> [u8; Schema::NODES]
     requires { Below n l.now m × (n ≤ 16) × (m ≤ 16) }
     ensures { front_of n result ≡ map (λ c. get_or (front_of m image.now) c 0) (front_of n l.now) }
 {
     let mut r = [0u8; Schema::NODES];
-    let mut i = 0;
-    while i < n {
-        r[i] = image[wide(l[i])];
-        i += 1;
+    for (i, c) in l[..n].iter().enumerate() {
+        r[i] = image[usize::from(*c)];
     }
     r
 }
@@ -33,55 +30,42 @@ fn joined(a: Image, b: Image) -> Image
     requires { a.length + b.length ≤ 15 }
     ensures { (image_of result ≡ image_of a ++ image_of b) × (result.length ≡ a.length + b.length) }
 {
-    let n = b.length as usize;
-    let from = a.length as usize;
+    let from = usize::from(a.length);
+    let n = usize::from(b.length);
     let mut edges = a.edges;
-    let mut i = 0;
-    while i < n {
-        edges[from + i] = b.edges[i];
-        i += 1;
-    }
-    let length = (from + n) as u8;
+    edges[from..from + n].copy_from_slice(&b.edges[..n]);
     Image {
-        length: length,
-        edges: edges,
+        length: a.length + b.length,
+        edges,
     }
 }
 
 // A path's image: its edges' images, joined.
-fn path_image(edge: [Image; Mapping::EDGES], p: Image) -> Image
-    requires { Joinable edge p }
-    ensures { IsJoined edge p result }
+fn path_image(edge: &[Image; Mapping::EDGES], p: Image) -> Image
+    requires { Joinable edge.now p }
+    ensures { IsJoined edge.now p result }
 {
-    let n = p.length as usize;
+    let n = usize::from(p.length);
     let mut image = Image::empty();
-    let mut i = 0;
-    while i < n {
-        let e = wide(p.edges[i]);
-        let next = edge[e];
+    for e in &p.edges[..n] {
+        let next = edge[usize::from(*e)];
         image = joined(image, next);
-        i += 1;
     }
     image
 }
 
 // The images of the first n paths.
 fn path_images(
-    edge: [Image; Mapping::EDGES],
-    paths: [Image; Mapping::EDGES],
+    edge: &[Image; Mapping::EDGES],
+    paths: &[Image; Mapping::EDGES],
     n: usize,
 ) -> [Image; Mapping::EDGES]
-    requires { EdgesJoinable edge paths n }
-    ensures { AreJoined edge paths n result }
+    requires { EdgesJoinable edge.now paths.now n }
+    ensures { AreJoined edge.now paths.now n result }
 {
-    let none = Image::empty();
-    let mut r = [none; Mapping::EDGES];
-    let mut i = 0;
-    while i < n {
-        let path = paths[i];
-        let image = path_image(edge, path);
-        r[i] = image;
-        i += 1;
+    let mut r = [Image::empty(); Mapping::EDGES];
+    for (i, path) in paths[..n].iter().enumerate() {
+        r[i] = path_image(edge, *path);
     }
     r
 }
@@ -98,12 +82,11 @@ pub(crate) fn composite(s: Schema, t: Schema, u: Schema, f: Mapping, g: Mapping)
     let edge_images = g.edge;
     let attribute_images = g.attribute;
     let node = images_of(&nodes, s.graph.nodes, &node_images, t.graph.nodes);
-    let edge = path_images(edge_images, edges, s.graph.edges);
+    let edge = path_images(&edge_images, &edges, s.graph.edges);
     let attribute = images_of(&attributes, s.attributes, &attribute_images, t.attributes);
     Mapping {
-        fault: 0,
-        node: node,
-        edge: edge,
-        attribute: attribute,
+        node,
+        edge,
+        attribute,
     }
 }

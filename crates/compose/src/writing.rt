@@ -10,19 +10,15 @@ use encoding::paths::{write_edges, write_small};
 use mapping::{Image, Mapping};
 use schema::Schema;
 
-// The bits of the first n images.
-fn images_bits(edge: [Image; Mapping::EDGES], n: usize) -> usize
-    requires { Short n edge × (n ≤ 32) }
-    ensures { result ≡ images_bits n edge }
+// The bits of images.
+fn images_bits(images: &[Image]) -> usize
+    requires { length images.now ≤ 32 }
+    ensures { result ≡ images_bits (length images.now) images.now }
 {
-    let mut sum: usize = 0;
-    let mut i = 0;
-    while i < n {
-        let image = edge[i];
-        sum += 4 + 5 * (image.length as usize);
-        i += 1;
-    }
-    sum
+    images
+        .iter()
+        .map(|image| 4 + 5 * usize::from(image.length))
+        .sum()
 }
 
 // The byte length of a mapping's sheet.
@@ -31,22 +27,19 @@ pub(crate) fn mapping_length(s: Schema, f: Mapping) -> usize
     ensures { result ≡ mapping_bytes s f }
 {
     let edge = f.edge;
-    (4 * s.graph.nodes + images_bits(edge, s.graph.edges) + 4 * s.attributes + 7) / 8
+    (4 * s.graph.nodes + images_bits(&edge[..s.graph.edges]) + 4 * s.attributes + 7) / 8
 }
 
-// Writes the first n images, one after the other, and gives the position behind them.
-fn write_images(tray: &mut [u8], at: usize, edge: [Image; Mapping::EDGES], n: usize) -> usize
-    requires { ImagesFit tray.old at edge n }
-    ensures { ImagesWritten tray.old at edge n result tray.new }
+// Writes images, one after the other, and gives the position behind them.
+fn write_images(tray: &mut [u8], at: usize, images: &[Image]) -> usize
+    requires { ImagesFit tray.old at images.now (length images.now) }
+    ensures { ImagesWritten tray.old at images.now (length images.now) result tray.new }
 {
     let mut p = at;
-    let mut i = 0;
-    while i < n {
-        let image = edge[i];
-        let length = image.length as usize;
-        write_edges(&mut *tray, p, &image.edges, length);
-        p += 4 + 5 * length;
-        i += 1;
+    for image in images {
+        let n = usize::from(image.length);
+        write_edges(tray, p, &image.edges, n);
+        p += 4 + 5 * n;
     }
     p
 }
@@ -57,13 +50,13 @@ pub(crate) fn write_mapping(tray: &mut [u8], s: Schema, f: Mapping) -> usize
     ensures { Written (mapping_sheet (mapping_of s f)) tray.old result tray.new }
 {
     let bytes = mapping_length(s, f);
-    bits::clear(&mut *tray, bytes);
+    bits::clear(tray, bytes);
     let nodes = s.graph.nodes;
     let node = f.node;
     let edge = f.edge;
     let attribute = f.attribute;
-    write_small(&mut *tray, 0, 4, &node, nodes);
-    let next = write_images(&mut *tray, 4 * nodes, edge, s.graph.edges);
-    write_small(&mut *tray, next, 4, &attribute, s.attributes);
+    write_small(tray, 0, 4, &node, nodes);
+    let next = write_images(tray, 4 * nodes, &edge[..s.graph.edges]);
+    write_small(tray, next, 4, &attribute, s.attributes);
     bytes
 }

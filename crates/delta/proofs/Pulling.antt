@@ -47,8 +47,8 @@ module _ {s t : Schema} {f : Mapping} {j : Instance} (B : Fitting s t f) (L : Li
     image-count : (c : ℕ) → c < s.graph.nodes → count J (node_image (mapping_of s f) c) ≡ rows_of f.node j.counts c
     image-count c l = ap (count J) (node_at s f c l) ∙ count_at t B.target j links values (get_or f.node c 0) (node_in B c l)
 
-  pub counted : {d : Instance} → Counts s.graph.nodes (rows_of f.node j.counts) d.counts → d.fault ≡ 0 → Counted s t f j d
-  counted u sound = record { says = tabulate-upto s.graph.nodes (λ c l. u.each c l ∙ sym (image-count [] [] c l)); long = u.long; unrefused = sound }
+  pub counted : {d : Instance} → Counts s.graph.nodes (rows_of f.node j.counts) d.counts → Counted s t f j d
+  counted u = record { says = tabulate-upto s.graph.nodes (λ c l. u.each c l ∙ sym (image-count [] [] c l)); long = u.long }
 
   -- ---- the tables, over their counts
   module _ {d : Instance} (D : Counted s t f j d) where
@@ -136,4 +136,4 @@ module _ {s t : Schema} {f : Mapping} {j : Instance} (B : Fitting s t f) (L : Li
 module _ {s t : Schema} {f : Mapping} {j d : Instance} {links values followed copied : List ℕ} where
   pub pulled : Counted s t f j d → columns_of s.graph.edges (rows_of s.graph.source d.counts) followed ≡ (delta_of s t f j links values).links
       → columns_of s.attributes (rows_of s.node d.counts) copied ≡ (delta_of s t f j links values).values → Pulled s t f j links values d followed copied
-  pulled D a b = record { says = rw (D.says, a, b); long = D.long; unrefused = D.unrefused }
+  pulled D a b = record { says = rw (D.says, a, b); long = D.long }

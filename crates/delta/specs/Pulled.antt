@@ -59,10 +59,8 @@ delta_of s t f j links values = delta (schema_of s) (mapping_of s f) (tables_of 
 pub record Counted (s t : Schema) (f : Mapping) (j d : Instance) : Type 0 where
   pub says : front_of s.graph.nodes d.counts ≡ (delta_of s t f j [] []).counts
   pub long : length d.counts ≡ 16
-  pub unrefused : d.fault ≡ 0
 
 -- Delta's tables stand in working arrays
 pub record Pulled (s t : Schema) (f : Mapping) (j : Instance) (links values : List ℕ) (d : Instance) (followed copied : List ℕ) : Type 0 where
   pub says : tables_of s d followed copied ≡ delta_of s t f j links values
   pub long : length d.counts ≡ 16
-  pub unrefused : d.fault ≡ 0

@@ -15,11 +15,9 @@ pub fn count_column(n: usize, node: &[u8], counts: &[u32]) -> [u32; Schema::NODE
     requires { (n ≤ 16) × Columns n node.now counts.now }
     ensures { Counts n (rows_of node.now counts.now) result }
 {
-    let mut out = [0u32; Schema::NODES];
-    let mut c = 0;
-    while c < n {
-        out[c] = counts[node[c] as usize];
-        c += 1;
+    let mut out = [0; Schema::NODES];
+    for (c, &image) in node[..n].iter().enumerate() {
+        out[c] = counts[usize::from(image)];
     }
     out
 }
@@ -29,11 +27,9 @@ pub fn follow_column(links: &[u32], image: Image, rows: usize, out: &mut [u32], 
     requires { (image.length ≤ 15) × Leads links.now (image_of image) rows × (base + rows ≤ length out.old) }
     ensures { Stored (theory.follow (link_in links.now) (image_of image)) rows base out.old out.new }
 {
-    let n = image.length as usize;
+    let n = usize::from(image.length);
     let edges = image.edges;
-    let mut x = 0;
-    while x < rows {
-        out[base + x] = follow(links, &edges, n, x) as u32;
-        x += 1;
+    for (x, row) in out[base..base + rows].iter_mut().enumerate() {
+        *row = follow(links, &edges, n, x) as u32;
     }
 }

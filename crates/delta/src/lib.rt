@@ -25,7 +25,6 @@ pub fn delta_counts(s: Schema, t: Schema, f: Mapping, j: Instance) -> Instance
     let node = f.node;
     let counts = j.counts;
     Instance {
-        fault: 0,
         counts: count_column(s.graph.nodes, &node, &counts),
     }
 }
@@ -37,17 +36,14 @@ fn delta_links(s: Schema, f: Mapping, counts: &[u32], links: &[u32], out: &mut [
 {
     let graph = s.graph;
     let source = graph.source;
-    let n = graph.edges;
-    let mut e = 0;
-    while e < n {
+    for e in 0..graph.edges {
         let rows = rows_of(&source, counts, e);
-        let image = f.edge[e];
-        follow_column(links, image, rows, &mut *out, Instance::ROWS * e);
-        e += 1;
+        follow_column(links, f.edge[e], rows, out, Instance::ROWS * e);
     }
 }
 
 // Its values: for each of n attributes the column of its image.
+// Kept: the loop of delta_links but for the call in it; a closure for that call takes two clauses, which are longer than the loop.
 fn delta_values(
     n: usize,
     node: &[u8],
@@ -59,17 +55,15 @@ fn delta_values(
     requires { AttributeImages n node.now attribute.now counts.now values.now × (512 * n ≤ length out.old) }
     ensures { ColumnsStored n (rows_of node.now counts.now) (image_value attribute.now values.now) out.old out.new }
 {
-    let mut a = 0;
-    while a < n {
+    for (a, &image) in attribute[..n].iter().enumerate() {
         let rows = rows_of(node, counts, a);
         copy_column(
             values,
-            Instance::ROWS * (attribute[a] as usize),
+            Instance::ROWS * usize::from(image),
             rows,
-            &mut *out,
+            out,
             Instance::ROWS * a,
         );
-        a += 1;
     }
 }
 
@@ -89,16 +83,9 @@ pub fn delta(
 {
     let d = delta_counts(s, t, f, j);
     let counts = d.counts;
-    delta_links(s, f, &counts, links, &mut *followed);
+    delta_links(s, f, &counts, links, followed);
     let node = s.node;
     let attribute = f.attribute;
-    delta_values(
-        s.attributes,
-        &node,
-        &attribute,
-        &counts,
-        values,
-        &mut *copied,
-    );
+    delta_values(s.attributes, &node, &attribute, &counts, values, copied);
     d
 }

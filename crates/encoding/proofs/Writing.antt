@@ -1,11 +1,12 @@
 -- Laws of writing: fields of one width one by one, columns one by one, and whole sheets.
-use Prim.Native.Nat.{ℕ, zero, suc, ◌+◌, ◌*◌, ◌<◌}
+use Prim.Native.Nat.{ℕ, zero, suc, ◌+◌, ◌-◌, ◌*◌, ◌<◌}
 use mathlib.Core.Path.{◌≡◌, refl, sym, ap, ap₂, ◌∙◌}
 use mathlib.Core.List.{List, [], ◌∷◌, ◌++◌, map, map-append, append-nil}
 use native.Mathlib.Omega.{arith}
 use native.Mathlib.Nat.{mul-suc, mul-zero, mul-add, zero-add}
 use native.Mathlib.Numerals.{add-one}
-use lib.ListN.{length, drop, get_or, replicate}
+use lib.ListN.{length, take, drop, get_or, replicate}
+use Rattle.std.proofs.lemmas.List.{length-take, get_or-take, get_or-drop}
 use Rattle.bits.specs.Field.{bytes_for}
 use Rattle.bits.specs.Pack.{total_width, pack}
 use Rattle.bits.specs.Put.{put, put_all}
@@ -29,6 +30,12 @@ use Rattle.encoding.specs.Written.{Written, rows_in, column_fields, sheet_bits, 
 pub put-none : (s : List ℕ) (at : ℕ) → s ≡ put_all s at []
 unfolding put_all
 put-none s at = refl
+
+-- an element of a part of an array
+pub part-at : (l : List ℕ) (base n i : ℕ) → i < length (take ((base + n) - base) (drop base l)) → get_or (take ((base + n) - base) (drop base l)) i 0 ≡ get_or l (base + i) 0
+part-at l base n i h =
+    let k : i < (base + n) - base = omega (arith, length-take ((base + n) - base) (drop base l)) in
+    rw (get_or-take, get_or-drop)
 
 -- ---- fields of one width
 module _ (width : ℕ) where

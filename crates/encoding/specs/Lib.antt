@@ -1,3 +1,2 @@
--- What the contracts of writing say: written sheets, matching sheets.
+-- What the contracts of writing say: written sheets.
 pub mod Written
-pub mod Matched

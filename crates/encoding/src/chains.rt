@@ -22,9 +22,9 @@ pub fn write_chain(tray: &mut [u8], l: &[u32], n: usize) -> usize
     ensures { Written (chain_sheet (map step_of (front_of n l.now))) tray.old result tray.new }
 {
     let bytes = chain_length(n);
-    bits::clear(&mut *tray, bytes);
-    let count = [n as u32; 1];
-    write_column(&mut *tray, 0, 8, &count, 0, 1);
-    write_column(&mut *tray, 8, 10, l, 0, n);
+    bits::clear(tray, bytes);
+    let count = [n as u32];
+    write_column(tray, 0, 8, &count, 0, 1);
+    write_column(tray, 8, 10, l, 0, n);
     bytes
 }

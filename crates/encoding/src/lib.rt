@@ -5,7 +5,7 @@ pub mod chains;
 pub mod matching;
 pub mod paths;
 
-ghost use Rattle.std.specs.Prelude.{◌≡◌, ◌+◌, ◌≤◌, length};
+ghost use Rattle.std.specs.Prelude.{◌≡◌, ◌+◌, ◌*◌, ◌≤◌, length};
 ghost use Rattle.bits.specs.Put.{put_all};
 ghost use Rattle.meaning.specs.Formats.{fields_of, instance_sheet};
 ghost use Rattle.schema.specs.Judged.{Sound};
@@ -13,7 +13,7 @@ ghost use Rattle.instance.specs.Decoded.{rows_of, column_of, tables_of, Fields, 
 ghost use Rattle.encoding.specs.Written.{Written, rows_in, ColumnsFit, ColumnsWritten, sheet_bytes};
 
 use instance::Instance;
-use instance::decode::{rows_of, wide};
+use instance::decode::rows_of;
 use schema::Schema;
 
 // Writes n numbers from base on as fields of one width.
@@ -21,16 +21,13 @@ pub fn write_column(tray: &mut [u8], at: usize, width: usize, l: &[u32], base: u
     requires { Fields tray.old at width n × (base + n ≤ length l.now) }
     ensures { tray.new ≡ put_all tray.old at (fields_of width (column_of l.now base n)) }
 {
-    let mut head = bits::read_head(&*tray, at);
-    let mut i = 0;
+    let mut head = bits::read_head(tray, at);
     let mut p = at;
-    while i < n {
-        let value = wide(l[base + i]) as u64;
-        head = bits::append_field(&mut *tray, p, width, value, head);
+    for &x in &l[base..base + n] {
+        head = bits::append_field(tray, p, width, u64::from(x), head);
         p += width;
-        i += 1;
     }
-    bits::write_head(&mut *tray, p, head);
+    bits::write_head(tray, p, head);
 }
 
 // Writes n columns, one after the other, and gives the position behind them.
@@ -46,13 +43,11 @@ fn write_columns(
     requires { ColumnsFit tray.old at width n home.now counts.now l.now }
     ensures { ColumnsWritten tray.old at width n home.now counts.now l.now result tray.new }
 {
-    let mut k = 0;
     let mut p = at;
-    while k < n {
+    for k in 0..n {
         let rows = rows_of(home, counts, k);
-        write_column(&mut *tray, p, width, l, Instance::ROWS * k, rows);
+        write_column(tray, p, width, l, Instance::ROWS * k, rows);
         p += width * rows;
-        k += 1;
     }
     p
 }
@@ -60,13 +55,12 @@ fn write_columns(
 // The rows of n columns together.
 fn rows_in(n: usize, home: &[u8], counts: &[u32]) -> usize
     requires { Columns n home.now counts.now × (n ≤ 32) }
-    ensures { result ≡ rows_in n (rows_of home.now counts.now) }
+    ensures says { result ≡ rows_in n (rows_of home.now counts.now) }
+    ensures few { result ≤ 512 * n }
 {
-    let mut sum: usize = 0;
-    let mut k = 0;
-    while k < n {
+    let mut sum = 0;
+    for k in 0..n {
         sum += rows_of(home, counts, k);
-        k += 1;
     }
     sum
 }
@@ -97,14 +91,14 @@ pub fn write_instance(
     ensures { Written (instance_sheet (tables_of schema instance links.now values.now)) tray.old result tray.new }
 {
     let n = sheet_length(schema, instance);
-    bits::clear(&mut *tray, n);
+    bits::clear(tray, n);
     let graph = schema.graph;
     let source = graph.source;
     let node = schema.node;
     let counts = instance.counts;
-    write_column(&mut *tray, 0, 10, &counts, 0, graph.nodes);
+    write_column(tray, 0, 10, &counts, 0, graph.nodes);
     let middle = write_columns(
-        &mut *tray,
+        tray,
         10 * graph.nodes,
         9,
         graph.edges,
@@ -112,14 +106,6 @@ pub fn write_instance(
         &counts,
         links,
     );
-    write_columns(
-        &mut *tray,
-        middle,
-        32,
-        schema.attributes,
-        &node,
-        &counts,
-        values,
-    );
+    write_columns(tray, middle, 32, schema.attributes, &node, &counts, values);
     n
 }

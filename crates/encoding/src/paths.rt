@@ -1,12 +1,11 @@
 // Path sheets: the start, then the number of edges and each of them, as a mapping sheet has them too.
-ghost use Rattle.std.specs.Prelude.{◌≡◌, ◌+◌, ◌*◌, ◌≤◌, length, get_or};
+ghost use Rattle.std.specs.Prelude.{◌≡◌, ◌+◌, ◌*◌, ◌≤◌, length};
 ghost use Rattle.bits.specs.Field.{bytes_for};
 ghost use Rattle.bits.specs.Put.{put_all};
 ghost use Rattle.meaning.specs.Schema.{path};
 ghost use Rattle.meaning.specs.Formats.{fields_of, edges_fields, path_sheet};
 ghost use Rattle.schema.specs.Decoded.{front_of};
 ghost use Rattle.instance.specs.Decoded.{Fields};
-ghost use Rattle.instance.specs.Stored.{Counts};
 ghost use Rattle.encoding.specs.Written.{Written, EdgesFit};
 
 use crate::write_column;
@@ -20,32 +19,13 @@ pub fn path_length(n: usize) -> usize
     (5 * n + 15) / 8
 }
 
-fn number(x: u8) -> u32
-    ensures { result ≡ x }
-{
-    x as u32
-}
-
-// Small numbers as a column.
-fn widened(edges: &[u8; Path::EDGES]) -> [u32; Path::EDGES]
-    ensures { Counts 16 (λ i. get_or edges.now i 0) result }
-{
-    let mut l = [0u32; Path::EDGES];
-    let mut i = 0;
-    while i < Path::EDGES {
-        l[i] = number(edges[i]);
-        i += 1;
-    }
-    l
-}
-
 // Writes the first n numbers of a small array as fields of one width.
 pub fn write_small(tray: &mut [u8], at: usize, width: usize, l: &[u8; Path::EDGES], n: usize)
     requires { Fields tray.old at width n × (n ≤ 16) }
     ensures { tray.new ≡ put_all tray.old at (fields_of width (front_of n l.now)) }
 {
-    let column = widened(l);
-    write_column(&mut *tray, at, width, &column, 0, n);
+    let column = l.map(u32::from);
+    write_column(tray, at, width, &column, 0, n);
 }
 
 // Writes n edges: their number, and then each.
@@ -54,8 +34,8 @@ pub fn write_edges(tray: &mut [u8], at: usize, edges: &[u8; Path::EDGES], n: usi
     ensures { tray.new ≡ put_all tray.old at (edges_fields (front_of n edges.now)) }
 {
     let length = [n as u32];
-    write_column(&mut *tray, at, 4, &length, 0, 1);
-    write_small(&mut *tray, at + 4, 5, edges, n);
+    write_column(tray, at, 4, &length, 0, 1);
+    write_small(tray, at + 4, 5, edges, n);
 }
 
 // Writes the sheet of the path of n edges at the front of a tray that has room for it, and gives its byte length.
@@ -64,9 +44,9 @@ pub fn write_path(tray: &mut [u8], start: u8, edges: &[u8; Path::EDGES], n: usiz
     ensures { Written (path_sheet (path start (front_of n edges.now))) tray.old result tray.new }
 {
     let bytes = path_length(n);
-    bits::clear(&mut *tray, bytes);
-    let first = [number(start)];
-    write_column(&mut *tray, 0, 4, &first, 0, 1);
-    write_edges(&mut *tray, 4, edges, n);
+    bits::clear(tray, bytes);
+    let first = [u32::from(start)];
+    write_column(tray, 0, 4, &first, 0, 1);
+    write_edges(tray, 4, edges, n);
     bytes
 }

@@ -1,13 +1,10 @@
 -- Laws of reading: a byte length, the sheet after it, and sheets one after the other.
 use Prim.Native.Nat.{ℕ, ◌+◌, ◌-◌, ◌*◌, ◌≤◌, ◌<◌}
 use mathlib.Core.Path.{◌≡◌, refl, sym, ap, subst, ◌∙◌}
-use mathlib.Core.Bool.{Bool, false}
 use mathlib.Core.List.{List, [], ◌∷◌, ◌++◌}
 use native.Mathlib.Omega.{arith}
-use lib.Dec.{ltb}
 use lib.ListN.{length, take, drop, get_or, length-drop}
 use lib.Seq.{drop-drop, take-nil, take_all, take-add, take-take, take-append-le, drop_at, length-take-le, get_or-take}
-use borrow.Author.Tests.{ltb-false}
 use borrow.Rule.Slice.PartMut.{put_mid, post_of}
 use Rattle.std.specs.Io.KnownBytes.{Consumes, Keeps}
 use Rattle.std.proofs.KnownBytes.{Consumes-trans, Consumes-kept}
@@ -18,8 +15,7 @@ use Rattle.meaning.specs.Program.{announced, frames}
 use Rattle.agreement.proofs.Framing.{Whole, whole-none, whole-next, whole-last, whole_all}
 use Rattle.text.specs.Framed.{max_sheet_bytes, max_frame_bytes, LengthFound}
 use Rattle.text.proofs.SheetParts.{length_some}
-use Rattle.input.specs.declared.Frame.{Frame}
-use Rattle.input.specs.Read.{IsPrefixLen, read_to, FrameRead, SheetsRead, BrokenOff}
+use Rattle.input.specs.Read.{IsPrefixLen, read_to, ReadFrom, SheetsRead, BrokenOff}
 
 prefix_len_of_le : (n : ℕ) (xs : List ℕ) → n ≤ length xs → IsPrefixLen n xs
 prefix_len_of_le n xs h = (h, sym (length-take-le n xs h))
@@ -54,10 +50,10 @@ two_and_more at k m got old two part within size kept fits =
     let back : take got (drop 2 (drop at new)) ≡ take got part = ap (take got) (drop-drop 2 at new) ∙ read_there (at + 2) m got first part inside fits in
     take-add 2 got (drop at new) ∙ ap (◌++ take got (drop 2 (drop at new))) front ∙ ap (take 2 two ++◌) back
 
-pub frame_consumed : (a b c : Option (List ℕ)) (at k m n got : ℕ) (old two part : List ℕ) (ended : Bool) → at + 2 ≤ length old → length two ≡ 2 → length (put_mid at k old two) ≡ length old → n ≤ 2
+pub frame_consumed : (a b c : Option (List ℕ)) (at k m n got : ℕ) (old two part : List ℕ) → at + 2 ≤ length old → length two ≡ 2 → length (put_mid at k old two) ≡ length old → n ≤ 2
     → 2 ≤ n → got ≤ length part → Consumes a b (take n two) → Consumes b c (take got part)
-    → Consumes a c (read_to (put_mid (at + 2) m (put_mid at k old two) part) at (record { end = at + 2 + got; ended = ended }))
-frame_consumed a b c at k m n got old two part ended within size kept few enough fits before now =
+    → Consumes a c (read_to (put_mid (at + 2) m (put_mid at k old two) part) at (at + 2 + got))
+frame_consumed a b c at k m n got old two part within size kept few enough fits before now =
     let new = put_mid (at + 2) m (put_mid at k old two) part in
     let n_is : n ≡ 2 = omega arith in
     let count : at + 2 + got - at ≡ 2 + got = omega arith in
@@ -131,19 +127,21 @@ announced-same at l new long long-new e =
     length_some new at long-new ∙ rw (first, second, length_some l at long)
 
 -- the input had a byte length, read first, and the sheet or less of it
-pub frame-some : {old first new : List ℕ} {at size got : ℕ} → at + max_frame_bytes ≤ length old → length first ≡ length old → take at first ≡ take at old → length new ≡ length first → take (at + 2) new ≡ take (at + 2) first → LengthFound first at size → got ≤ size → FrameRead old at (record { end = at + 2 + got; ended = ltb got size }) new
+pub frame-some : {old first new : List ℕ} {at size got : ℕ} → at + max_frame_bytes ≤ length old → length first ≡ length old → take at first ≡ take at old → length new ≡ length first → take (at + 2) new ≡ take (at + 2) first → LengthFound first at size → got ≤ size
+    → ReadFrom old at (at + 2 + got) new × (size ≤ got → at + 2 + got - at ≡ 2 + announced (read_to new at (at + 2 + got)))
 frame-some {old} {first} {new} {at} {size} {got} long first_long first-kept new-long new-kept found count =
     let announced-is : announced (drop at new) ≡ size = announced-same at first new (omega arith) (omega arith) new-kept ∙ sym found.is in
     let count-is : at + 2 + got - at ≡ 2 + got = omega arith in
     let size_is : announced (take (at + 2 + got - at) (drop at new)) ≡ size = rw count-is (announced-two got (drop at new) ∙ announced-is) in
-    let within : size ≤ max_sheet_bytes = found.within in
-    record {
-      before = sym (take-take at (at + 2) new (omega arith)) ∙ ap (take at) new-kept ∙ take-take at (at + 2) first (omega arith) ∙ first-kept;
-      onward = omega arith;
-      within = omega arith;
-      no_more = rw size_is (omega arith);
-      whole = λ e. let h = ltb-false got size e in rw size_is (omega arith);
-    }
+    let within : size ≤ max_sheet_bytes = found.within in (
+      record {
+        before = sym (take-take at (at + 2) new (omega arith)) ∙ ap (take at) new-kept ∙ take-take at (at + 2) first (omega arith) ∙ first-kept;
+        onward = omega arith;
+        within = omega arith;
+        no_more = rw size_is (omega arith);
+      },
+      λ h. rw size_is (omega arith),
+    )
 
 -- ---- sheets one after the other
 
@@ -160,30 +158,30 @@ none_read n into = record { long = refl; few = omega arith; room = omega arith; 
 pub room-left : {n : ℕ} {old into : List ℕ} {at i : ℕ} → ReadSoFar n old into at i → i < n → n * max_frame_bytes ≤ length old → at + max_frame_bytes ≤ length into
 room-left S less room = let h = S.long in let k = S.room in omega arith
 
-module _ {n : ℕ} {old into new : List ℕ} {at i : ℕ} {r : Frame} (S : ReadSoFar n old into at i) (less : i < n) (room : n * max_frame_bytes ≤ length old) (F : FrameRead into at r new) (kept : length new ≡ length into) where
-  inside : r.end ≤ length new
+module _ {n : ℕ} {old into new : List ℕ} {at end i : ℕ} (S : ReadSoFar n old into at i) (less : i < n) (room : n * max_frame_bytes ≤ length old) (F : ReadFrom into at end new) (kept : length new ≡ length into) where
+  inside : end ≤ length new
   inside = let h = room-left S less room in let k = F.within in omega arith
 
-  size : length (read_to new at r) ≡ r.end - at
-  size = length-take-le (r.end - at) (drop at new) (let h = inside in omega (arith, length-drop at new))
+  size : length (read_to new at end) ≡ end - at
+  size = length-take-le (end - at) (drop at new) (let h = inside in omega (arith, length-drop at new))
 
-  pub joined : take r.end new ≡ take at into ++ read_to new at r
+  pub joined : take end new ≡ take at into ++ read_to new at end
   joined =
-      let e : r.end ≡ at + (r.end - at) = let h = F.onward in omega arith in
-      ap (λ (m : ℕ). take m new) e ∙ take-add at (r.end - at) new ∙ ap (◌++ read_to new at r) F.before
+      let e : end ≡ at + (end - at) = let h = F.onward in omega arith in
+      ap (λ (m : ℕ). take m new) e ∙ take-add at (end - at) new ∙ ap (◌++ read_to new at end) F.before
 
-  pub next-read : r.ended ≡ false → ReadSoFar n old new r.end (i + 1)
+  pub next-read : end - at ≡ 2 + announced (read_to new at end) → ReadSoFar n old new end (i + 1)
   next-read e = record {
     long = kept ∙ S.long;
     few = omega arith;
     room = let h = S.room in let k = F.within in omega arith;
-    sheets = subst (Whole (i + 1)) (sym joined) (whole-next (read_to new at r) S.sheets (size ∙ F.whole e));
+    sheets = subst (Whole (i + 1)) (sym joined) (whole-next (read_to new at end) S.sheets (size ∙ e));
   }
 
-  pub last-read : SheetsRead n r.end new
+  pub last-read : SheetsRead n end new
   last-read = record {
-    counts = prefix_len_of_le r.end new inside;
-    no_more = ap (frames n) joined ∙ whole-last (read_to new at r) S.sheets (let h = size in let k = F.no_more in omega arith) n less ∙ sym joined;
+    counts = prefix_len_of_le end new inside;
+    no_more = ap (frames n) joined ∙ whole-last (read_to new at end) S.sheets (let h = size in let k = F.no_more in omega arith) n less ∙ sym joined;
   }
 
 pub all_read : {n : ℕ} {old into : List ℕ} {at i : ℕ} → ReadSoFar n old into at i → n ≤ i → n * max_frame_bytes ≤ length old → SheetsRead n at into

@@ -5,17 +5,17 @@ ghost use Rattle.std.specs.Prelude.{◌+◌, ◌*◌, ◌<◌, ◌≤◌, length
 ghost use Rattle.std.specs.Io.{ReadsAtMost};
 ghost use Rattle.std.specs.Io.KnownBytes.{Consumes, IsAtEnd};
 ghost use Rattle.text.specs.Framed.{max_frame_bytes};
-ghost use Rattle.input.specs.Read.{FrameRead, SheetsRead, BrokenOff, read_to};
+ghost use Rattle.input.specs.Read.{FrameRead, SheetsRead, BrokenOff, end_of, read_to};
 
 use std::io;
 use std::io::Read;
 use text::framing::length_at;
 
-// Where a sheet that was read ends, and whether the input ended before it was whole.
+// Where what was read ends: a whole sheet with its byte length, or as much of them as the input had.
 #[derive(Clone, Copy)]
-struct Frame {
-    end: usize,
-    ended: bool,
+enum Frame {
+    Whole(usize),
+    Cut(usize),
 }
 
 // Reads until the bytes are full or the input ends: how many it put at their start. The only error is that of a read that failed.
@@ -40,24 +40,21 @@ pub fn read_full<R: Read>(reader: &mut R, into: &mut [u8]) -> io::Result<usize>
 fn read_frame<R: Read>(reader: &mut R, into: &mut [u8], at: usize) -> io::Result<Frame>
     requires { at + max_frame_bytes ≤ length into.old }
     ensures frame { IfOk result (λ r. FrameRead into.old at r into.new) }
-    ensures bytes { IfOk result (λ r. Consumes (R.remaining reader.old) (R.remaining reader.new) (read_to into.new at r)) }
+    ensures bytes { IfOk result (λ r. Consumes (R.remaining reader.old) (R.remaining reader.new) (read_to into.new at (end_of r))) }
     ensures err { OnErr result (BrokenOff (R.remaining reader.old) (R.remaining reader.new) into.old at into.new) }
 {
     let start = at + 2;
     let of_length = read_full(reader, &mut into[at..start])?;
     if of_length < 2 {
-        return Ok(Frame {
-            end: at + of_length,
-            ended: true,
-        });
+        return Ok(Frame::Cut(at + of_length));
     }
     let size = length_at(into, at);
     let end = start + size;
     let of_sheet = read_full(reader, &mut into[start..end])?;
-    Ok(Frame {
-        end: start + of_sheet,
-        ended: of_sheet < size,
-    })
+    if of_sheet < size {
+        return Ok(Frame::Cut(start + of_sheet));
+    }
+    Ok(Frame::Whole(start + of_sheet))
 }
 
 // Reads the first n sheets, each after its byte length, to the front of `into`: how many bytes were read. It reads no byte after the
@@ -69,14 +66,11 @@ pub fn read_sheets<R: Read>(reader: &mut R, n: usize, into: &mut [u8]) -> io::Re
     ensures err { OnErr result (BrokenOff (R.remaining reader.old) (R.remaining reader.new) into.old 0 into.new) }
 {
     let mut at = 0;
-    let mut i = 0;
-    while i < n {
-        let frame = read_frame(reader, &mut *into, at)?;
-        if frame.ended {
-            return Ok(frame.end);
+    for _ in 0..n {
+        match read_frame(reader, into, at)? {
+            Frame::Whole(end) => at = end,
+            Frame::Cut(end) => return Ok(end),
         }
-        at = frame.end;
-        i += 1;
     }
     Ok(at)
 }

@@ -35,10 +35,6 @@ pub sum_of-few : (b n : ℕ) (f : ℕ → ℕ) → ((k : ℕ) → k < n → f k 
 sum_of-few b zero f h = omega arith
 sum_of-few b (suc n) f h = rw mul-suc (omega (arith, h 0 (omega arith), sum_of-few b n (λ i. f (suc i)) (λ k l. h (suc k) (omega arith))))
 
-pub sum_of-none : (n : ℕ) (f : ℕ → ℕ) → ((c : ℕ) → f c ≡ 0) → sum_of (tabulate n f) ≡ 0
-sum_of-none zero f h = refl
-sum_of-none (suc n) f h = omega (arith, h 0, sum_of-none n (λ i. f (suc i)) (λ c. h (suc c)))
-
 pub none-stands : (n c : ℕ) → ◌≡◌ {A = ℕ} (get_or (replicate n 0) c 0) 0
 none-stands zero c = refl
 none-stands (suc n) zero = refl

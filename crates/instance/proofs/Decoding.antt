@@ -1,16 +1,17 @@
 -- What the readers of an instance sheet give, step by step.
-use Prim.Native.Nat.{ℕ, suc, ◌*◌, ◌≤◌, ◌<◌}
-use mathlib.Core.Path.{◌≡◌, refl, sym, ap, ◌∙◌}
+use Prim.Native.Nat.{ℕ, ◌*◌, ◌≤◌, ◌<◌}
+use mathlib.Core.Path.{◌≡◌, sym, ap, ◌∙◌}
 use mathlib.Core.Bool.{true, false}
 use mathlib.Core.List.{List}
+use Rattle.std.specs.Prelude.{Some, None}
 use native.Mathlib.Omega.{arith}
 use native.Mathlib.Nat.{zero-add, le_trans}
-use borrow.Author.Tests.{le-leb, lt-leb, ne_eqb}
+use borrow.Author.Tests.{le-leb, lt-leb}
 use lib.ListN.{length, get_or}
 use Rattle.bits.specs.Field as bits
 use Rattle.theory.proofs.Numbering.{tabulate-get_or}
 use Rattle.meaning.specs.Lists.{sum_of}
-use Rattle.meaning.specs.Sheet.{Read, Reader, Judged, faulty, fails, reads, times, field}
+use Rattle.meaning.specs.Sheet.{Read, Reader, fails, reads, times, field}
 use Rattle.meaning.specs.Schema as meaning
 use Rattle.meaning.specs.Formats.{Instance, read_links, read_values, read_tables, read_instance}
 use Rattle.meaning.proofs.Reading.{fixed-field, fixed-times}
@@ -19,15 +20,8 @@ use Rattle.schema.specs.Decoded.{schema_of, front_of}
 use Rattle.schema.specs.Judged.{Sound}
 use Rattle.schema.proofs.SoundSchema.{source_in, target-in, home_in}
 use Rattle.instance.specs.declared.Instance as declared
-use Rattle.instance.specs.declared.decode.ColumnsRead.{ColumnsRead}
-use Rattle.instance.specs.Decoded.{counts_in, rows_of, tables_of, read_columns, empty_instance, Says, Columns, ColumnsTaken}
-use Rattle.instance.proofs.Columns.{in_turn-same, sum_of-none, sum_of-part, none-stands}
-
-pub faulty-says : (t : Schema) {i : declared.Instance} (links values : List ℕ) {k : ℕ} {J : Judged Instance} → i ≡ empty_instance (suc k) → J ≡ faulty (suc k) → Says t i links values J
-faulty-says t links values {k} e h = rw (e, h) (record {
-  says = rw (ne_eqb (suc k) 0 (λ q. omega arith));
-  limits = record { rows = omega (arith, sum_of-none t.graph.nodes _ (none-stands 16)); long = refl };
-})
+use Rattle.instance.specs.Decoded.{counts_in, rows_of, tables_of, read_columns, Columns, ColumnsTaken}
+use Rattle.instance.proofs.Columns.{in_turn-same, sum_of-part}
 
 -- ---- the leading counts
 module _ (S : meaning.Schema) (s : List ℕ) where
@@ -80,16 +74,16 @@ module _ (t : Schema) (A : Sound t) where
         ap (λ (m : Reader (List (List ℕ))). m s q)
         (in_turn-same {A = meaning.Attribute} _ _ t.attributes _ _ (λ a l. ap (λ (n : ℕ). times n (field 32)) (rows_at t.node a (home_in t A a l))))
 
-    module _ {a : ColumnsRead} {links : List ℕ} (u : ColumnsTaken s p 9 t.graph.edges t.graph.source counts a links) where
-      pub links-cut : a.cut ≡ true → tables ≡ fails 1
-      links-cut e = rw (links-columns ∙ sym u.says, e)
+    pub links-cut : {links : List ℕ} → ColumnsTaken s p 9 t.graph.edges t.graph.source counts None links → tables ≡ fails 1
+    links-cut u = rw (links-columns ∙ sym u.says)
 
-      module _ {b : ColumnsRead} {values : List ℕ} (v : ColumnsTaken s a.next 32 t.attributes t.node counts b values) (h : a.cut ≡ false) where
-        pub values-cut : b.cut ≡ true → tables ≡ fails 1
-        values-cut e = rw (links-columns ∙ sym u.says, h, values-columns a.next ∙ sym v.says, e)
+    module _ {q : ℕ} {links : List ℕ} (u : ColumnsTaken s p 9 t.graph.edges t.graph.source counts (Some q) links) where
+      pub values-cut : {values : List ℕ} → ColumnsTaken s q 32 t.attributes t.node counts None values → tables ≡ fails 1
+      values-cut v = rw (links-columns ∙ sym u.says, values-columns q ∙ sym v.says)
 
-        pub tables-tail : b.cut ≡ false → bits.tail_ok s b.next ≡ false → tables ≡ fails 2
-        tables-tail e f = rw (links-columns ∙ sym u.says, h, values-columns a.next ∙ sym v.says, e, f)
+      module _ {r : ℕ} {values : List ℕ} (v : ColumnsTaken s q 32 t.attributes t.node counts (Some r) values) where
+        pub tables-tail : bits.tail_ok s r ≡ false → tables ≡ fails 2
+        tables-tail f = rw (links-columns ∙ sym u.says, values-columns q ∙ sym v.says, f)
 
-        pub tables-read : (i : declared.Instance) → i.counts ≡ counts → b.cut ≡ false → bits.tail_ok s b.next ≡ true → tables ≡ reads (tables_of t i links values) b.next
-        tables-read i g e f = rw (links-columns ∙ sym u.says, h, values-columns a.next ∙ sym v.says, e, f, g)
+        pub tables-read : (i : declared.Instance) → i.counts ≡ counts → bits.tail_ok s r ≡ true → tables ≡ reads (tables_of t i links values) r
+        tables-read i g f = rw (links-columns ∙ sym u.says, values-columns q ∙ sym v.says, f, g)

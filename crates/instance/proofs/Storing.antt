@@ -1,11 +1,17 @@
 -- Columns stored and copied number by number, and stored column by column.
-use Prim.Native.Nat.{ℕ, ◌+◌, ◌*◌, ◌≤◌, ◌<◌}
+use Prim.Native.Nat.{ℕ, ◌+◌, ◌-◌, ◌*◌, ◌≤◌, ◌<◌}
 use mathlib.Core.Path.{◌≡◌, refl, ◌∙◌}
 use mathlib.Core.List.{List}
 use native.Mathlib.Omega.{arith}
 use borrow.Author.Count.{below_none, below_more}
-use lib.ListN.{length, get_or, set, length-set}
+use lib.ListN.{length, get_or, set, take, drop, length-set}
+use borrow.Rule.Slice.PartMut.{put_mid}
+use borrow.Author.Rules.{rules}
+use Rattle.std.proofs.lemmas.List.{places}
+use native.Mathlib.Decide.{dec_lt}
 use lib.Seq.{get_or-set_same, get_or-set_other}
+use mathlib.Core.Logic.{◌⊎◌, inl, inr}
+use Rattle.std.proofs.Common.{get_or-take, get_or-drop, length-take, length-drop}
 use Rattle.meaning.proofs.Tabulate.{filled}
 use Rattle.instance.specs.Stored.{Counts, Stored, Copied, ColumnsStored}
 
@@ -38,19 +44,33 @@ stored_more {g} {i} {base} {l} {r} {v} u h e = record {
 pub stored-done : {g : ℕ → ℕ} {n i base : ℕ} {l r : List ℕ} → Stored g i base l r → n ≤ i → Stored g n base l r
 stored-done u h = record { each = λ k m. u.each k (omega arith); below = u.below; long = u.long }
 
--- ---- copied
-pub copied_none : (list : List ℕ) (place base : ℕ) (l : List ℕ) → Copied list place 0 base l l
-copied_none list place base l = record { each = below_none _; other = λ k h. refl; long = refl }
+-- ---- a part of a list, n numbers from base on, put back as ys
+pub apart : (k base n : ℕ) → ((i : ℕ) → i < n → k ≡ base + i → ⊥) → (k < base) ⊎ (base + n ≤ k)
+apart k base n g = elim (dec_lt k base) [
+  | yes m ↦ inl m
+  | no m ↦ elim (dec_lt k (base + n)) [ yes b ↦ absurd (g (k - base) (omega arith) (omega arith)) | no b ↦ inr (omega arith) ]
+]
 
-pub copied_more : {list : List ℕ} {place i base : ℕ} {l r : List ℕ} → Copied list place i base l r → base + i < length r → Copied list place (i + 1) base l (set r (base + i) (get_or list (place + i) 0))
-copied_more {list} {place} {i} {base} {l} {r} u h =
-    let v = get_or list (place + i) 0 in
+module _ (l ys : List ℕ) (base n : ℕ) (h : base + n ≤ length l) (e : length ys ≡ n) where
+  pub put-here : (i : ℕ) → i < n → get_or (put_mid base (base + n - base) l ys) (base + i) 0 ≡ get_or ys i 0
+  put-here i m = search (rules, places)
+
+  pub put-other : (k : ℕ) → ((i : ℕ) → i < n → k ≡ base + i → ⊥) → get_or (put_mid base (base + n - base) l ys) k 0 ≡ get_or l k 0
+  put-other k g = elim (apart k base n g) [ inl m ↦ search (rules, places) | inr m ↦ search (rules, places) ]
+
+  pub put-length : length (put_mid base (base + n - base) l ys) ≡ length l
+  put-length = search (rules, places)
+
+-- ---- copied
+pub copied-part : (list : List ℕ) (place n : ℕ) (l : List ℕ) (base : ℕ) → place + n ≤ length list → base + n ≤ length l
+    → Copied list place n base l (put_mid base (base + n - base) l (take (place + n - place) (drop place list)))
+copied-part list place n l base h k =
+    let part = take (place + n - place) (drop place list) in
+    let e : length part ≡ n = simp (length-take, length-drop) (omega arith) in
     record {
-      each = below_more (λ k. get_or (set r (base + i) v) (base + k) 0 ≡ get_or list (place + k) 0) i
-          (λ k m. get_or-set_other r (base + i) (base + k) v 0 (λ q. let z : base + k ≡ base + i = q in omega arith) ∙ u.each k m)
-          (get_or-set_same r (base + i) v 0 h);
-      other = λ k g. get_or-set_other r (base + i) k v 0 (g i (omega arith)) ∙ u.other k (λ j m. g j (omega arith));
-      long = length-set r (base + i) v ∙ u.long;
+      each = λ i m. put-here l part base n k e i m ∙ (let p : i < place + n - place = omega arith in rw (get_or-take, get_or-drop) refl);
+      other = put-other l part base n k e;
+      long = put-length l part base n k e;
     }
 
 pub copied-stored : {list : List ℕ} {place n base : ℕ} {l r : List ℕ} → Copied list place n base l r → Stored (λ i. get_or list (place + i) 0) n base l r

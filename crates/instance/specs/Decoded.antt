@@ -1,14 +1,13 @@
 -- What the structs and the working arrays of an instance mean, and what the decoder promises of them.
-use Rattle.std.specs.Prelude.{ℕ, ◌+◌, ◌*◌, ◌^◌, ◌≤◌, ◌<◌, ◌≡◌, Bool, cond, ◌&&◌, List, length, get_or, replicate, eqb, leb}
+use Rattle.std.specs.Prelude.{ℕ, ◌+◌, ◌*◌, ◌^◌, ◌≤◌, ◌<◌, ◌≡◌, Bool, ◌&&◌, List, length, get_or, leb, Option, Some, None, IfSome}
 use Rattle.bits.specs.Field as bits
 use Rattle.theory.specs.Numbering.{tabulate}
 use Rattle.meaning.specs.Lists.{sum_of}
-use Rattle.meaning.specs.Sheet.{Reader, Judged, faulty, sound, in_turn, times, field}
+use Rattle.meaning.specs.Sheet.{Read, Reader, fails, reads, in_turn, times, field}
 use Rattle.meaning.specs.Formats as meaning
 use Rattle.schema.specs.declared.Schema.{Schema}
-use Rattle.schema.specs.Decoded.{read_of, front_of}
+use Rattle.schema.specs.Decoded.{front_of}
 use Rattle.instance.specs.declared.Instance.{Instance}
-use Rattle.instance.specs.declared.decode.ColumnsRead.{ColumnsRead}
 
 -- ---- what structs and arrays mean
 
@@ -30,13 +29,6 @@ tables_of t i links values = record {
   links = columns_of t.graph.edges (rows_of t.graph.source i.counts) links;
   values = columns_of t.attributes (rows_of t.node i.counts) values;
 }
-
--- the number with which the sheet is sent back, or what it says
-abbrev pub judged_instance : Schema → Instance → List ℕ → List ℕ → Judged meaning.Instance
-judged_instance t i links values = cond (eqb i.fault 0) (sound (tables_of t i links values)) (faulty i.fault)
-
-abbrev pub empty_instance : ℕ → Instance
-empty_instance number = record { fault = number; counts = replicate 16 0 }
 
 -- ---- what a call is lent
 
@@ -82,10 +74,15 @@ pub record Columns (n : ℕ) (home counts : List ℕ) : Type 0 where
 abbrev pub read_columns : ℕ → ℕ → (ℕ → ℕ) → Reader (List (List ℕ))
 read_columns width n rows = in_turn (λ k. times (rows k) (field width)) (tabulate n (λ k. k))
 
-pub record ColumnsTaken (s : List ℕ) (at width n : ℕ) (home counts : List ℕ) (r : ColumnsRead) (out : List ℕ) : Type 0 where
-  pub says : read_of r.cut (columns_of n (rows_of home counts) out) r.next ≡ read_columns width n (rows_of home counts) s at
-  pub inside : r.next ≤ 8 * length s
-  pub near : r.next ≤ at + 16384 * n
+-- columns and the place behind them, or that the bits end before they do
+abbrev pub read_to : Option ℕ → List (List ℕ) → Read (List (List ℕ))
+read_to None columns = fails 1
+read_to (Some next) columns = reads columns next
+
+pub record ColumnsTaken (s : List ℕ) (at width n : ℕ) (home counts : List ℕ) (r : Option ℕ) (out : List ℕ) : Type 0 where
+  pub says : read_to r (columns_of n (rows_of home counts) out) ≡ read_columns width n (rows_of home counts) s at
+  pub inside : IfSome r (λ next. next ≤ 8 * length s)
+  pub near : IfSome r (λ next. next ≤ at + 16384 * n)
 
 -- ---- an instance
 
@@ -93,7 +90,3 @@ pub record ColumnsTaken (s : List ℕ) (at width n : ℕ) (home counts : List �
 pub record Limits (t : Schema) (i : Instance) : Type 0 where
   pub rows : sum_of (front_of t.graph.nodes i.counts) ≤ 512
   pub long : length i.counts ≡ 16
-
-pub record Says (t : Schema) (i : Instance) (links values : List ℕ) (J : Judged meaning.Instance) : Type 0 where
-  pub says : judged_instance t i links values ≡ J
-  pub limits : Limits t i

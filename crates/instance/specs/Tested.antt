@@ -1,14 +1,12 @@
 -- The tests of an instance, over its working arrays.
 use Rattle.std.specs.Prelude.{ℕ, ◌*◌, ◌≡◌, Bool, true, List, ltb, get_or}
 use Rattle.meaning.specs.Lists.{all}
-use Rattle.meaning.specs.Sheet.{Judged}
-use Rattle.meaning.specs.Formats as formats
 use Rattle.meaning.specs.Formats.{Kinds, kinds, in_range}
 use Rattle.meaning.specs.Judge.{links_in_range, values_in_range, obeys_equations}
 use Rattle.schema.specs.declared.Schema.{Schema}
 use Rattle.schema.specs.Decoded.{schema_of}
 use Rattle.instance.specs.declared.Instance.{Instance}
-use Rattle.instance.specs.Decoded.{rows_of, column_of, tables_of, judged_instance, Limits}
+use Rattle.instance.specs.Decoded.{rows_of, column_of, tables_of}
 
 -- the links along edge e, as many as rows has for its source, are below what counts has for its target
 abbrev pub link_test : List ℕ → List ℕ → List ℕ → List ℕ → List ℕ → ℕ → Bool
@@ -25,8 +23,3 @@ pub record Accepted (t : Schema) (i : Instance) (links values : List ℕ) : Type
   pub links_in : links_in_range (schema_of t) (tables_of t i links values) ≡ true
   pub values_in : values_in_range kinds (schema_of t) (tables_of t i links values) ≡ true
   pub obeys : obeys_equations (schema_of t) (tables_of t i links values) ≡ true
-
-pub record Tested (t : Schema) (i : Instance) (links values : List ℕ) (J : Judged formats.Instance) : Type 0 where
-  pub says : judged_instance t i links values ≡ J
-  pub limits : Limits t i
-  pub accepted : (i.fault ≡ 0 → Accepted t i links values)

@@ -7,9 +7,5 @@ pub fn copy_column(list: &[u32], place: usize, n: usize, out: &mut [u32], base: 
     requires { (place + n ≤ length list.now) × (base + n ≤ length out.old) }
     ensures { Copied list.now place n base out.old out.new }
 {
-    let mut i = 0;
-    while i < n {
-        out[base + i] = list[place + i];
-        i += 1;
-    }
+    out[base..base + n].copy_from_slice(&list[place..place + n]);
 }

@@ -1,37 +1,30 @@
 // What an instance sheet holds, read into working arrays: refusals 1, 2 and 3.
-ghost use Rattle.std.specs.Prelude.{◌≡◌, ◌+◌, ◌*◌, ◌≤◌, ◌<◌, length, get_or};
+ghost use Rattle.std.specs.Prelude.{◌≡◌, ◌+◌, ◌*◌, ◌≤◌, ◌<◌, length, get_or, IfOk};
 ghost use Rattle.bits.specs.Field.{field, Within};
 ghost use Rattle.meaning.specs.Lists.{sum_of};
 ghost use Rattle.meaning.specs.Sheet.{on_sheet, judged};
 ghost use Rattle.meaning.specs.Formats.{max_nodes, max_rows, read_tables, read_instance};
 ghost use Rattle.schema.specs.Decoded.{Near, schema_of, front_of};
+ghost use Rattle.schema.specs.Faults.{judged_of};
 ghost use Rattle.schema.specs.Judged.{Sound};
-ghost use Rattle.instance.specs.Decoded.{counts_in, rows_of, Fields, Columns, ColumnsTaken, RoomFor, Says};
+ghost use Rattle.instance.specs.Decoded.{counts_in, rows_of, tables_of, Fields, Columns, ColumnsTaken, Limits, RoomFor};
 ghost use Rattle.instance.specs.Stored.{Stored};
 
 use crate::Instance;
 use bits::reader::{ends_at, field_at, lacks_at};
-use schema::{Schema, faults};
-
-// A number of 32 bits as an index.
-pub fn wide(x: u32) -> usize
-    ensures { result ≡ x }
-{
-    x as usize
-}
+use schema::Schema;
+use schema::faults::Fault;
 
 // A field of at most 32 bits. The widths of links and values are written out: a constant width is read by far fewer instructions.
 fn number(s: &[u8], at: usize, width: usize) -> u32
     requires { Within s.now at width }
     ensures { result ≡ field s.now at width }
 {
-    if width == 9 {
-        return field_at(s, at, 9) as u32;
+    match width {
+        9 => field_at(s, at, 9) as u32,
+        32 => field_at(s, at, 32) as u32,
+        _ => field_at(s, at, width) as u32,
     }
-    if width == 32 {
-        return field_at(s, at, 32) as u32;
-    }
-    field_at(s, at, width) as u32
 }
 
 // n fields of one width, stored from base on.
@@ -39,12 +32,8 @@ pub fn read_column(s: &[u8], at: usize, width: usize, n: usize, out: &mut [u32],
     requires { Fields s.now at width n × (base + n ≤ length out.old) }
     ensures { Stored (λ i. field s.now (at + width * i) width) n base out.old out.new }
 {
-    let mut i = 0;
-    let mut p = at;
-    while i < n {
-        out[base + i] = number(s, p, width);
-        p += width;
-        i += 1;
+    for i in 0..n {
+        out[base + i] = number(s, at + width * i, width);
     }
 }
 
@@ -63,13 +52,7 @@ pub fn total(counts: &[u32], n: usize) -> usize
     requires { (n ≤ max_nodes) × (n ≤ length counts.now) }
     ensures { result ≡ sum_of (front_of n counts.now) }
 {
-    let mut sum: usize = 0;
-    let mut i = 0;
-    while i < n {
-        sum += wide(counts[i]);
-        i += 1;
-    }
-    sum
+    counts[..n].iter().map(|&count| count as usize).sum()
 }
 
 // The rows of column k: those of its table.
@@ -77,17 +60,11 @@ pub fn rows_of(home: &[u8], counts: &[u32], k: usize) -> usize
     requires { (k < length home.now) × (get_or home.now k 0 < length counts.now) }
     ensures { result ≡ rows_of home.now counts.now k }
 {
-    wide(counts[home[k] as usize])
-}
-
-// Where columns end, or that the bits end before they do.
-#[derive(Clone, Copy)]
-pub struct ColumnsRead {
-    pub cut: bool,
-    pub next: usize,
+    counts[usize::from(home[k])] as usize
 }
 
 // n columns of fields of one width, one after the other. Column k has as many as the table home[k] has rows, and is stored from 512 * k on.
+// Gives where they end, or None where the bits end before they do.
 fn read_columns(
     s: &[u8],
     at: usize,
@@ -96,28 +73,20 @@ fn read_columns(
     home: &[u8],
     counts: &[u32],
     out: &mut [u32],
-) -> ColumnsRead
+) -> Option<usize>
     requires { (width ≤ 32) × Near s.now at (16384 * n) × Columns n home.now counts.now × (max_rows * n ≤ length out.old) }
     ensures { ColumnsTaken s.now at width n home.now counts.now result out.new }
 {
-    let mut k = 0;
     let mut p = at;
-    while k < n {
+    for k in 0..n {
         let rows = rows_of(home, counts, k);
         if lacks_at(s, p, width * rows) {
-            return ColumnsRead {
-                cut: true,
-                next: at,
-            };
+            return None;
         }
-        read_column(s, p, width, rows, &mut *out, Instance::ROWS * k);
+        read_column(s, p, width, rows, out, Instance::ROWS * k);
         p += width * rows;
-        k += 1;
     }
-    ColumnsRead {
-        cut: false,
-        next: p,
-    }
+    Some(p)
 }
 
 // What follows the leading counts, from a position on: links and values of so many rows.
@@ -128,51 +97,42 @@ pub fn decode_tables(
     counts: [u32; Schema::NODES],
     links: &mut [u32],
     values: &mut [u32],
-) -> Instance
+) -> Result<Instance, Fault>
     requires { Sound schema × RoomFor schema links.old values.old × (at ≤ 8 * length s.now) × (at ≤ 160) × (sum_of (front_of schema.graph.nodes counts) ≤ max_rows) }
-    ensures { Says schema result links.new values.new (judged (read_tables (schema_of schema) (front_of schema.graph.nodes counts) s.now at)) }
+    ensures says { judged_of (λ i. tables_of schema i links.new values.new) result ≡ judged (read_tables (schema_of schema) (front_of schema.graph.nodes counts) s.now at) }
+    ensures limits { IfOk result (Limits schema) }
 {
     let graph = schema.graph;
     let source = graph.source;
     let node = schema.node;
-    let a = read_columns(s, at, 9, graph.edges, &source, &counts, &mut *links);
-    if a.cut {
-        return Instance::faulty(faults::CUT);
+    let middle = read_columns(s, at, 9, graph.edges, &source, &counts, links).ok_or(Fault::Cut)?;
+    let end = read_columns(s, middle, 32, schema.attributes, &node, &counts, values).ok_or(
+        Fault::Cut,
+    )?;
+    if !ends_at(s, end) {
+        return Err(Fault::Tail);
     }
-    let b = read_columns(
-        s,
-        a.next,
-        32,
-        schema.attributes,
-        &node,
-        &counts,
-        &mut *values,
-    );
-    if b.cut {
-        return Instance::faulty(faults::CUT);
-    }
-    if ends_at(s, b.next) {
-        return Instance {
-            fault: 0,
-            counts: counts,
-        };
-    }
-    Instance::faulty(faults::TAIL)
+    Ok(Instance { counts })
 }
 
-// What an instance sheet says, or the number with which it is sent back before any test of its sense.
-pub fn decode_instance(schema: Schema, s: &[u8], links: &mut [u32], values: &mut [u32]) -> Instance
+// What an instance sheet says, or why it is sent back before any test of its sense.
+pub fn decode_instance(
+    schema: Schema,
+    s: &[u8],
+    links: &mut [u32],
+    values: &mut [u32],
+) -> Result<Instance, Fault>
     requires { Sound schema × RoomFor schema links.old values.old }
-    ensures { Says schema result links.new values.new (on_sheet (read_instance (schema_of schema)) s.now) }
+    ensures says { judged_of (λ i. tables_of schema i links.new values.new) result ≡ on_sheet (read_instance (schema_of schema)) s.now }
+    ensures limits { IfOk result (Limits schema) }
 {
-    let graph = schema.graph;
-    let nodes = graph.nodes;
+    let nodes = schema.graph.nodes;
     if lacks_at(s, 0, 10 * nodes) {
-        return Instance::faulty(faults::CUT);
+        return Err(Fault::Cut);
     }
     let counts = read_counts(s, nodes);
-    if total(&counts, nodes) <= Instance::ROWS {
-        return decode_tables(schema, s, 10 * nodes, counts, &mut *links, &mut *values);
+    if total(&counts, nodes) > Instance::ROWS {
+        return Err(Fault::Count);
     }
-    Instance::faulty(faults::COUNT)
+    decode_tables(schema, s, 10 * nodes, counts, links, values)
 }

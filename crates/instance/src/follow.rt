@@ -9,7 +9,6 @@ ghost use Rattle.instance.specs.Decoded.{tables_of, Limits};
 ghost use Rattle.instance.specs.Followed.{link_in, Stays, Followable, agree_on};
 
 use crate::Instance;
-use crate::decode::wide;
 use schema::{Path, Schema};
 
 // The row to which the first n edges lead from a row.
@@ -18,10 +17,8 @@ pub fn follow(links: &[u32], edges: &[u8], n: usize, row: usize) -> usize
     ensures { result ≡ theory.follow (link_in links.now) (front_of n edges.now) row }
 {
     let mut x = row;
-    let mut i = 0;
-    while i < n {
-        x = wide(links[Instance::ROWS * (edges[i] as usize) + x]);
-        i += 1;
+    for edge in &edges[..n] {
+        x = links[Instance::ROWS * usize::from(*edge) + x] as usize;
     }
     x
 }
@@ -31,14 +28,7 @@ fn agree(links: &[u32], left: &[u8], m: usize, right: &[u8], n: usize, rows: usi
     requires { (m ≤ length left.now) × (n ≤ length right.now) × Followable links.now (front_of m left.now) rows × Followable links.now (front_of n right.now) rows }
     ensures { result ≡ agree_on links.now (front_of m left.now) (front_of n right.now) rows }
 {
-    let mut x = 0;
-    while x < rows {
-        if follow(links, left, m, x) != follow(links, right, n, x) {
-            return false;
-        }
-        x += 1;
-    }
-    true
+    (0..rows).all(|x| follow(links, left, m, x) == follow(links, right, n, x))
 }
 
 // Whether two paths lead each of the first rows to the same row.
@@ -51,9 +41,9 @@ fn paths_agree(links: &[u32], a: Path, b: Path, rows: usize) -> bool
     agree(
         links,
         &left,
-        a.length as usize,
+        usize::from(a.length),
         &right,
-        b.length as usize,
+        usize::from(b.length),
         rows,
     )
 }
@@ -63,15 +53,11 @@ pub fn obeys_equations(schema: Schema, instance: Instance, links: &[u32]) -> boo
     requires { Sound schema × Limits schema instance × (max_rows * schema.graph.edges ≤ length links.now) × (links_in_range (schema_of schema) (tables_of schema instance links.now []) ≡ true) }
     ensures { result ≡ obeys_equations (schema_of schema) (tables_of schema instance links.now []) }
 {
-    let n = schema.equations;
-    let mut k = 0;
-    while k < n {
+    for k in 0..schema.equations {
         let a = schema.left[k];
         let b = schema.right[k];
-        let start = a.start as usize;
-        if paths_agree(links, a, b, wide(instance.counts[start])) {
-            k += 1;
-        } else {
+        let rows = instance.counts[usize::from(a.start)] as usize;
+        if !paths_agree(links, a, b, rows) {
             return false;
         }
     }

@@ -12,6 +12,7 @@ impl Range {
     pub const KINDS: usize = 16;
 }
 
+// Kept: a kind stays a number: it is a field of 4 bits in a schema sheet, and all that is asked of it is its place in a list of ranges, which a caller may give.
 const BUILT_IN: [Range; Range::KINDS] = [
     Range(0, 4294967295), // 0 plain
     Range(0, 4294967295), // 1 station in mm
@@ -42,18 +43,12 @@ pub fn kinds() -> [Range; Range::KINDS]
 pub fn range_of(kinds: [Range; Range::KINDS], kind: usize) -> Range
     ensures { range_of result ≡ get_or (kinds_of kinds) kind (formats.from_to 0 0) }
 {
-    if kind < Range::KINDS {
-        return kinds[kind];
-    }
-    Range(0, 0)
+    kinds.get(kind).copied().unwrap_or(Range(0, 0))
 }
 
 // Whether a value is within a range.
 pub fn within(range: Range, value: u32) -> bool
     ensures { result ≡ formats.within (range_of range) value }
 {
-    if range.0 <= value {
-        return value <= range.1;
-    }
-    false
+    range.0 <= value && value <= range.1
 }

@@ -12,7 +12,7 @@ ghost use Rattle.instance.specs.Ranges.{range_of, kinds_of};
 ghost use Rattle.instance.specs.Tested.{link_test, value_test};
 
 use crate::Instance;
-use crate::decode::{rows_of, wide};
+use crate::decode::rows_of;
 use crate::kinds::{Range, range_of, within};
 use schema::Schema;
 
@@ -21,14 +21,7 @@ pub fn column_below(l: &[u32], base: usize, n: usize, bound: usize) -> bool
     requires { base + n ≤ length l.now }
     ensures { result ≡ all (λ x. ltb x bound) (column_of l.now base n) }
 {
-    let mut i = 0;
-    while i < n {
-        if wide(l[base + i]) >= bound {
-            return false;
-        }
-        i += 1;
-    }
-    true
+    l[base..base + n].iter().all(|&x| (x as usize) < bound)
 }
 
 // Whether n numbers from base on are within a range.
@@ -37,10 +30,8 @@ fn column_within(range: Range, l: &[u32], base: usize, n: usize) -> bool
     ensures { result ≡ all (formats.within (range_of range)) (column_of l.now base n) }
 {
     let mut so_far = true;
-    let mut i = 0;
-    while i < n {
-        so_far = so_far & within(range, l[base + i]);
-        i += 1;
+    for x in &l[base..base + n] {
+        so_far &= within(range, *x);
     }
     so_far
 }
@@ -57,17 +48,11 @@ pub fn columns_below(
     requires { Columns n source.now rows.now × Columns n target.now counts.now × (max_rows * n ≤ length links.now) }
     ensures { result ≡ all (link_test source.now target.now rows.now counts.now links.now) (tabulate n (λ e. e)) }
 {
-    let mut e = 0;
-    while e < n {
+    (0..n).all(|e| {
         let many = rows_of(source, rows, e);
         let bound = rows_of(target, counts, e);
-        if column_below(links, Instance::ROWS * e, many, bound) {
-            e += 1;
-        } else {
-            return false;
-        }
-    }
-    true
+        column_below(links, Instance::ROWS * e, many, bound)
+    })
 }
 
 // Whether the values of each of n attributes are of its kind.
@@ -82,13 +67,10 @@ fn columns_in_range(
     requires { Columns n node.now counts.now × (n ≤ length kind.now) × (max_rows * n ≤ length values.now) }
     ensures { result ≡ all (value_test node.now kind.now counts.now values.now (kinds_of kinds)) (tabulate n (λ a. a)) }
 {
-    let mut a = 0;
-    while a < n {
+    for a in 0..n {
         let rows = rows_of(node, counts, a);
-        let range = range_of(kinds, kind[a] as usize);
-        if column_within(range, values, Instance::ROWS * a, rows) {
-            a += 1;
-        } else {
+        let range = range_of(kinds, usize::from(kind[a]));
+        if !column_within(range, values, Instance::ROWS * a, rows) {
             return false;
         }
     }

@@ -4,7 +4,6 @@ ghost use Rattle.meaning.specs.Formats.{max_nodes, tables_from};
 ghost use Rattle.schema.specs.Decoded.{front_of};
 ghost use Rattle.instance.specs.Tables.{no_table, table_list_of};
 
-use crate::decode::wide;
 use schema::Schema;
 
 #[derive(Clone, Copy)]
@@ -21,15 +20,10 @@ pub fn table_list(counts: &[u32], n: usize) -> [Table; Schema::NODES]
     let none = Table { first: 0, count: 0 };
     let mut list = [none; Schema::NODES];
     let mut first: usize = 0;
-    let mut c = 0;
-    while c < n {
-        let count = wide(counts[c]);
-        list[c] = Table {
-            first: first,
-            count: count,
-        };
+    for (c, &count) in counts[..n].iter().enumerate() {
+        let count = count as usize;
+        list[c] = Table { first, count };
         first += count;
-        c += 1;
     }
     list
 }

@@ -1,7 +1,7 @@
 -- The paths' part of evenness, by the tables of paths: each class over a class of T is the class of all paths over it, and each path of T has one.
 use Prim.Native.Nat.{ℕ, ◌<◌}
 use mathlib.Core.Path.{◌≡◌, refl, sym, ap, ◌∙◌, subst}
-use mathlib.Core.Bool.{Bool, true, false, not, cond, ◌&&◌}
+use mathlib.Core.Bool.{Bool, true, false, cond, ◌&&◌}
 use mathlib.Core.List.{List, Memᴰ}
 use native.Mathlib.Omega.{arith}
 use borrow.Author.Tests.{eq-eqb, eqb-true}
@@ -15,7 +15,7 @@ use Rattle.meaning.specs.Formats as formats
 use Rattle.meaning.specs.Views.{node_image, path_image}
 use Rattle.meaning.specs.Evenness.{lifts, one_class}
 use Rattle.meaning.proofs.Tabulate.{and_both}
-use Rattle.meaning.proofs.Lists.{no_bool, and_intro, both_ways, filter-in, filter-of, all_in, all_of, all-upto, upto_all}
+use Rattle.meaning.proofs.Lists.{and_intro, both_ways, filter-in, filter-of, all_in, all_of, all-upto, upto_all}
 use Rattle.agreement.specs.Paths.{path_at, class_number, number_of}
 use Rattle.agreement.proofs.Paths.{paths_from-each}
 use Rattle.agreement.proofs.Evenness.{one_class-some, one_class-same, same-one_class}
@@ -31,21 +31,17 @@ use Rattle.mapping.specs.Judged.{Schemas, Imageable, Sound, image_number}
 use Rattle.mapping.proofs.Viewing.{node_at}
 use Rattle.mapping.proofs.Imaging.{image-path}
 use Rattle.mapping.proofs.ImageTable.{images, image-class}
-use Rattle.lifts.specs.Even.{image_class, lift_classes, unique_at, has_lift_at, even_paths_at}
-use Rattle.lifts.proofs.Lifting.{lifts-some, lifts-every}
+use Rattle.std.specs.Prelude.{Option, Some, None, is_some}
+use Rattle.lifts.specs.Even.{image_class, lift_classes, is_class, unique_at, has_lift_at, even_paths_at}
+use Rattle.lifts.proofs.Lifting.{lifts-some, lifts-every, is_class-some, value_of, some-is, is-some}
 
 -- ---- tests
 cond-is : (a b : Bool) → (a ≡ true → b ≡ true) → cond a b true ≡ true
 cond-is true b h = h refl
 cond-is false b h = refl
 
-not_is : (a : Bool) → (a ≡ true → ⊥) → not a ≡ true
-not_is true h = absurd (h refl)
-not_is false h = refl
-
-is-not : (a : Bool) → not a ≡ true → a ≡ true → ⊥
-is-not true h e = no_bool (sym h)
-is-not false h e = no_bool (sym e)
+some_one : {x y : ℕ} → Some x ≡ Some y → x ≡ y
+some_one e = cc
 
 -- ---- both tables
 module _ {s t : Schema} {source-paths target-paths : Paths} {f : Mapping} (h : Schemas s t source-paths target-paths) (k : Sound s t f) {over : List ℕ} (o : Filled 256 (image_class (schema_of s) (schema_of t) (mapping_of s f)) source-paths.count over) where
@@ -80,7 +76,7 @@ module _ {s t : Schema} {source-paths target-paths : Paths} {f : Mapping} (h : S
     d-in : d < t.graph.nodes
     d-in = (images passed).node_in c l
 
-    abbrev classes_over : List ℕ
+    abbrev classes_over : List (Option ℕ)
     classes_over = lift_classes source-paths.start source-paths.class over c source-paths.count
 
     abbrev unique : ℕ → Bool
@@ -89,29 +85,29 @@ module _ {s t : Schema} {source-paths target-paths : Paths} {f : Mapping} (h : S
     abbrev has_lift : ℕ → Bool
     has_lift = has_lift_at target-paths.start target-paths.class classes_over (get_or f.node c 0)
 
-    every : (i : ℕ) → i < source-paths.count → get_or source-paths.start i 0 ≡ c → get_or classes_over (get_or over i 0) 0 ≡ 256 → ⊥
-    every i b e = lifts-every source-paths.start source-paths.class over c source-paths.count i (class_low h.source h.source-paths) b (over-low i b) e
+    every : (i : ℕ) → i < source-paths.count → get_or source-paths.start i 0 ≡ c → get_or classes_over (get_or over i 0) None ≡ None → ⊥
+    every i b e = lifts-every source-paths.start source-paths.class over c source-paths.count i b (over-low i b) e
 
     -- ---- from the arrays
     module _ (a : all unique (upto source-paths.count) ≡ true) (e : all has_lift (upto target-paths.count) ≡ true) where
-      unique-class : (p : Path) → Memᴰ p (paths_from S.graph c) → class_number S p ≡ get_or classes_over (class_number T (path_image F p)) 0
+      unique-class : (p : Path) → Memᴰ p (paths_from S.graph c) → get_or classes_over (class_number T (path_image F p)) None ≡ Some (class_number S p)
       unique-class p i =
           let n = numbered h.source h.source-paths c l p i in
           let x = n.number in
-          let u : get_or classes_over (get_or over x 0) 0 ≡ get_or source-paths.class x 0 =
-          eqb-true (get_or classes_over (get_or over x 0) 0) (get_or source-paths.class x 0)
-          (subst (λ (b : Bool). cond b (eqb (get_or classes_over (get_or over x 0) 0) (get_or source-paths.class x 0)) true ≡ true) (eq-eqb (get_or source-paths.start x 0) c n.starts) (upto_all unique source-paths.count a x n.below)) in
-          subst (λ (w : Path). class_number S w ≡ get_or classes_over (class_number T (path_image F w)) 0) n.is
-          (sym (class-at h.source h.source-paths x n.below) ∙ sym u ∙ ap (λ (y : ℕ). get_or classes_over y 0) (o.each x n.below))
+          let u : get_or classes_over (get_or over x 0) None ≡ Some (get_or source-paths.class x 0) =
+          is_class-some (get_or classes_over (get_or over x 0) None) (get_or source-paths.class x 0)
+          (subst (λ (b : Bool). cond b (is_class (get_or classes_over (get_or over x 0) None) (get_or source-paths.class x 0)) true ≡ true) (eq-eqb (get_or source-paths.start x 0) c n.starts) (upto_all unique source-paths.count a x n.below)) in
+          subst (λ (w : Path). get_or classes_over (class_number T (path_image F w)) None ≡ Some (class_number S w)) n.is
+          (ap (λ (y : ℕ). get_or classes_over y None) (sym (o.each x n.below)) ∙ u ∙ ap Some (class-at h.source h.source-paths x n.below))
 
       some-lift : (q : Path) → Memᴰ q (paths_from T.graph d) → (p : Path) × Memᴰ p (lifts (category_of s) (category_of t) F c q)
       some-lift q i =
           let n = numbered h.target h.target-paths d d-in q i in
           let y = n.number in
-          let u : not (eqb (get_or classes_over (get_or target-paths.class y 0) 0) 256) ≡ true =
-          subst (λ (b : Bool). cond b (not (eqb (get_or classes_over (get_or target-paths.class y 0) 0) 256)) true ≡ true) (eq-eqb (get_or target-paths.start y 0) (get_or f.node c 0) (n.starts ∙ node_at s f c l)) (upto_all has_lift target-paths.count e y n.below) in
-          let v = lifts-some source-paths.start source-paths.class over c source-paths.count (get_or target-paths.class y 0) (class_low h.target h.target-paths y n.below)
-          (λ z. is-not (eqb (get_or classes_over (get_or target-paths.class y 0) 0) 256) u (eq-eqb (get_or classes_over (get_or target-paths.class y 0) 0) 256 z)) in
+          let u : is_some (get_or classes_over (get_or target-paths.class y 0) None) ≡ true =
+          subst (λ (b : Bool). cond b (is_some (get_or classes_over (get_or target-paths.class y 0) None)) true ≡ true) (eq-eqb (get_or target-paths.start y 0) (get_or f.node c 0) (n.starts ∙ node_at s f c l)) (upto_all has_lift target-paths.count e y n.below) in
+          let w = value_of (get_or classes_over (get_or target-paths.class y 0) None) (is-some (get_or classes_over (get_or target-paths.class y 0) None) u) in
+          let v = lifts-some source-paths.start source-paths.class over c source-paths.count (get_or target-paths.class y 0) w.0 (class_low h.target h.target-paths y n.below) w.1 in
           let x = v.number in (
             path_at S.graph x,
             over-in c q (path_at S.graph x) (from-table h.source h.source-paths c x l v.below v.starts)
@@ -122,7 +118,7 @@ module _ {s t : Schema} {source-paths target-paths : Paths} {f : Mapping} (h : S
       one-lift q i = same-one_class (category_of s) (lifts (category_of s) (category_of t) F c q) (some-lift q i).1 (λ p r x y.
           let u = over-of c q p x in
           let v = over-of c q r y in
-          same_first S p r (unique-class p u.0 ∙ ap (λ (z : ℕ). get_or classes_over z 0) (u.1 ∙ sym v.1) ∙ sym (unique-class r v.0)))
+          same_first S p r (some_one (sym (unique-class p u.0) ∙ ap (λ (z : ℕ). get_or classes_over z None) (u.1 ∙ sym v.1) ∙ unique-class r v.0)))
 
     -- ---- to the arrays
     module _ (e : all (λ q. one_class (category_of s) (lifts (category_of s) (category_of t) F c q)) (paths_from T.graph d) ≡ true) where
@@ -133,20 +129,22 @@ module _ {s t : Schema} {source-paths target-paths : Paths} {f : Mapping} (h : S
           (paths_from-each T (formed h.target) d d-in (path_image F p)).1 (ap (node_image F) w.0, image-path (formed h.source) (formed h.target) (images passed) c p.edges w.1)
 
       each-unique : (x : ℕ) → x < source-paths.count → unique x ≡ true
-      each-unique x b = cond-is (eqb (get_or source-paths.start x 0) c) (eqb (get_or classes_over (get_or over x 0) 0) (get_or source-paths.class x 0)) (λ z.
+      each-unique x b = cond-is (eqb (get_or source-paths.start x 0) c) (is_class (get_or classes_over (get_or over x 0) None) (get_or source-paths.class x 0)) (λ z.
           let st = eqb-true (get_or source-paths.start x 0) c z in
           let q = path_image F (path_at S.graph x) in
-          let v = lifts-some source-paths.start source-paths.class over c source-paths.count (get_or over x 0) (over-low x b) (every x b st) in
+          let w = value_of (get_or classes_over (get_or over x 0) None) (every x b st) in
+          let v = lifts-some source-paths.start source-paths.class over c source-paths.count (get_or over x 0) w.0 (over-low x b) w.1 in
           let y = v.number in
           let one = all_of (λ (q : Path). one_class (category_of s) (lifts (category_of s) (category_of t) F c q)) (paths_from T.graph d) e (image-from x b st) in
           let same = one_class-same (category_of s) (lifts (category_of s) (category_of t) F c q) one (path_at S.graph y) (path_at S.graph x)
           (over-in c q (path_at S.graph y) (from-table h.source h.source-paths c y l v.below v.starts) (sym (o.each y v.below) ∙ v.lies ∙ o.each x b))
           (over-in c q (path_at S.graph x) (from-table h.source h.source-paths c x l b st) refl) in
-          eq-eqb (get_or classes_over (get_or over x 0) 0) (get_or source-paths.class x 0)
+          ap (λ (u : Option ℕ). is_class u (get_or source-paths.class x 0)) w.1
+          ∙ eq-eqb w.0 (get_or source-paths.class x 0)
           (sym v.has ∙ class-at h.source h.source-paths y v.below ∙ ap (number_of S.graph) same ∙ sym (class-at h.source h.source-paths x b)))
 
       each-has-lift : (y : ℕ) → y < target-paths.count → has_lift y ≡ true
-      each-has-lift y b = cond-is (eqb (get_or target-paths.start y 0) (get_or f.node c 0)) (not (eqb (get_or classes_over (get_or target-paths.class y 0) 0) 256)) (λ z.
+      each-has-lift y b = cond-is (eqb (get_or target-paths.start y 0) (get_or f.node c 0)) (is_some (get_or classes_over (get_or target-paths.class y 0) None)) (λ z.
           let st : get_or target-paths.start y 0 ≡ d = eqb-true (get_or target-paths.start y 0) (get_or f.node c 0) z ∙ sym (node_at s f c l) in
           let q = path_at T.graph y in
           let p = one_class-some (category_of s) (lifts (category_of s) (category_of t) F c q) (all_of (λ (q : Path). one_class (category_of s) (lifts (category_of s) (category_of t) F c q)) (paths_from T.graph d) e (from-table h.target h.target-paths d y d-in b st)) in
@@ -154,8 +152,7 @@ module _ {s t : Schema} {source-paths target-paths : Paths} {f : Mapping} (h : S
           let n = numbered h.source h.source-paths c l p.0 u.0 in
           let x = n.number in
           let lies_over : get_or over x 0 ≡ get_or target-paths.class y 0 = o.each x n.below ∙ ap (λ (w : Path). class_number T (path_image F w)) n.is ∙ u.1 ∙ sym (class-at h.target h.target-paths y b) in
-          not_is (eqb (get_or classes_over (get_or target-paths.class y 0) 0) 256) (λ r.
-          every x n.below n.starts (ap (λ (w : ℕ). get_or classes_over w 0) lies_over ∙ eqb-true (get_or classes_over (get_or target-paths.class y 0) 0) 256 r)))
+          some-is (get_or classes_over (get_or target-paths.class y 0) None) (λ r. every x n.below n.starts (ap (λ (w : ℕ). get_or classes_over w None) lies_over ∙ r)))
 
     pub even-paths : even_paths_at source-paths target-paths over f.node c ≡ all (λ q. one_class (category_of s) (lifts (category_of s) (category_of t) F c q)) (paths_from T.graph d)
     even-paths = both_ways (all unique (upto source-paths.count) && all has_lift (upto target-paths.count)) (all (λ q. one_class (category_of s) (lifts (category_of s) (category_of t) F c q)) (paths_from T.graph d))

@@ -1,5 +1,5 @@
 -- Evenness by the arrays of the tables of paths.
-use Rattle.std.specs.Prelude.{ℕ, zero, suc, Bool, true, not, cond, ◌&&◌, List, get_or, set, replicate, length, eqb}
+use Rattle.std.specs.Prelude.{ℕ, zero, suc, Bool, true, false, cond, ◌&&◌, List, get_or, set, replicate, length, eqb, is_some, Option, Some, None}
 use Rattle.meaning.specs.Lists.{upto, filter, all}
 use Rattle.meaning.specs.Schema as meaning
 use Rattle.meaning.specs.Formats as formats
@@ -15,19 +15,24 @@ use Rattle.mapping.specs.declared.Mapping.{Mapping}
 abbrev pub image_class : meaning.Schema → meaning.Schema → formats.Mapping → ℕ → ℕ
 image_class S T F i = class_number T (path_image F (path_at S.graph i))
 
--- for each class of T the class of a path over it, the last of the first k paths that starts at c; 256 where there is none
-abbrev pub lift_classes : List ℕ → List ℕ → List ℕ → ℕ → ℕ → List ℕ
-lift_classes start class over c zero = replicate 256 256
+-- for each class of T the class of a path over it, the last of the first k paths that starts at c, if there is one
+abbrev pub lift_classes : List ℕ → List ℕ → List ℕ → ℕ → ℕ → List (Option ℕ)
+lift_classes start class over c zero = replicate 256 None
 lift_classes start class over c (suc k) =
-    cond (eqb (get_or start k 0) c) (set (lift_classes start class over c k) (get_or over k 0) (get_or class k 0)) (lift_classes start class over c k)
+    cond (eqb (get_or start k 0) c) (set (lift_classes start class over c k) (get_or over k 0) (Some (get_or class k 0))) (lift_classes start class over c k)
+
+-- there is a class, and it is x
+abbrev pub is_class : Option ℕ → ℕ → Bool
+is_class None x = false
+is_class (Some y) x = eqb y x
 
 -- path k, where it starts at c, has the class over its image's class
-abbrev pub unique_at : List ℕ → List ℕ → List ℕ → List ℕ → ℕ → ℕ → Bool
-unique_at start class over lifts c k = cond (eqb (get_or start k 0) c) (eqb (get_or lifts (get_or over k 0) 0) (get_or class k 0)) true
+abbrev pub unique_at : List ℕ → List ℕ → List ℕ → List (Option ℕ) → ℕ → ℕ → Bool
+unique_at start class over lifts c k = cond (eqb (get_or start k 0) c) (is_class (get_or lifts (get_or over k 0) None) (get_or class k 0)) true
 
 -- there is a class over path k of T, where that starts at d
-abbrev pub has_lift_at : List ℕ → List ℕ → List ℕ → ℕ → ℕ → Bool
-has_lift_at start class lifts d k = cond (eqb (get_or start k 0) d) (not (eqb (get_or lifts (get_or class k 0) 0) 256)) true
+abbrev pub has_lift_at : List ℕ → List ℕ → List (Option ℕ) → ℕ → ℕ → Bool
+has_lift_at start class lifts d k = cond (eqb (get_or start k 0) d) (is_some (get_or lifts (get_or class k 0) None)) true
 
 -- each path of T from d has one lift at c
 abbrev pub each_has_one_lift : List ℕ → List ℕ → List ℕ → ℕ → List ℕ → List ℕ → ℕ → ℕ → ℕ → Bool

@@ -10,19 +10,9 @@ ghost use Rattle.mapping.specs.Judged.{Schemas, Imageable, Sound};
 ghost use Rattle.lifts.specs.Even.{image_class, lift_classes, unique_at, has_lift_at, each_has_one_lift, even_paths_at, is_over, even_column_at, even_columns_at};
 
 use mapping::Mapping;
-use mapping::images::{index, path_images};
+use mapping::images::path_images;
 use paths::Paths;
 use schema::Schema;
-
-// What stands in place of a class where there is none: classes are below it.
-const NO_LIFT: u16 = 256;
-
-// A class as a number that can also be NO_LIFT.
-fn as_u16(x: u8) -> u16
-    ensures { (result ≡ x) × (result < 256) }
-{
-    x as u16
-}
 
 // The class of the image of each path of S.
 pub fn image_classes(
@@ -37,150 +27,82 @@ pub fn image_classes(
 {
     let path = path_images(s, t, source_paths, target_paths, f);
     let class = target_paths.class;
-    let count = source_paths.count;
     let mut over = [0u8; Mapping::PATHS];
-    let mut i = 0;
-    while i < count {
-        let x = index(path[i]);
-        over[i] = class[x];
-        i += 1;
+    for i in 0..source_paths.count {
+        over[i] = class[usize::from(path[i])];
     }
     over
 }
 
-// For each class of T the class of a path from c over it; NO_LIFT where there is none.
-fn lift_classes<'a>(
-    start: &'a [u8; Schema::PATHS],
-    class: &'a [u8; Schema::PATHS],
-    over: &'a [u8; Mapping::PATHS],
-    count: usize,
-    c: u8,
-) -> [u16; Schema::PATHS]
-    requires { count ≤ 256 }
-    ensures { result ≡ lift_classes start.now class.now over.now c count }
+// For each class of T the class of a path from c over it, if there is one.
+fn lift_classes(paths: &Paths, over: &[u8; Mapping::PATHS], c: u8) -> [Option<u8>; Schema::PATHS]
+    requires { paths.now.count ≤ 256 }
+    ensures { result ≡ lift_classes paths.now.start paths.now.class over.now c paths.now.count }
 {
-    let mut lifts = [NO_LIFT; Schema::PATHS];
-    let mut i = 0;
-    while i < count {
-        let k = i;
-        i += 1;
-        if start[k] == c {
-            let x = index(over[k]);
-            lifts[x] = as_u16(class[k]);
+    let mut lifts = [None; Schema::PATHS];
+    for i in 0..paths.count {
+        if paths.start[i] == c {
+            lifts[usize::from(over[i])] = Some(paths.class[i]);
         }
     }
     lifts
 }
 
 // Whether each path from c has the class that lifts has over the class of its image.
-fn lifts_unique<'a>(
-    start: &'a [u8; Schema::PATHS],
-    class: &'a [u8; Schema::PATHS],
-    over: &'a [u8; Mapping::PATHS],
-    lifts: &'a [u16; Schema::PATHS],
-    count: usize,
+fn lifts_unique(
+    paths: &Paths,
+    over: &[u8; Mapping::PATHS],
+    lifts: &[Option<u8>; Schema::PATHS],
     c: u8,
 ) -> bool
-    requires { count ≤ 256 }
-    ensures { result ≡ all (unique_at start.now class.now over.now lifts.now c) (upto count) }
+    requires { paths.now.count ≤ 256 }
+    ensures { result ≡ all (unique_at paths.now.start paths.now.class over.now lifts.now c) (upto paths.now.count) }
 {
-    let mut i = 0;
-    while i < count {
-        let k = i;
-        i += 1;
-        if start[k] == c {
-            let x = index(over[k]);
-            if lifts[x] != as_u16(class[k]) {
-                return false;
-            }
-        }
-    }
-    true
+    (0..paths.count).all(|i| paths.start[i] != c
+        || lifts[usize::from(over[i])] == Some(paths.class[i]))
 }
 
 // Whether lifts has a class over each path of T from d.
-fn each_has_lift<'a>(
-    start: &'a [u8; Schema::PATHS],
-    class: &'a [u8; Schema::PATHS],
-    lifts: &'a [u16; Schema::PATHS],
-    count: usize,
-    d: u8,
-) -> bool
-    requires { count ≤ 256 }
-    ensures { result ≡ all (has_lift_at start.now class.now lifts.now d) (upto count) }
+fn each_has_lift(paths: &Paths, lifts: &[Option<u8>; Schema::PATHS], d: u8) -> bool
+    requires { paths.now.count ≤ 256 }
+    ensures { result ≡ all (has_lift_at paths.now.start paths.now.class lifts.now d) (upto paths.now.count) }
 {
-    let mut j = 0;
-    while j < count {
-        let k = j;
-        j += 1;
-        if start[k] == d {
-            let x = index(class[k]);
-            if lifts[x] == NO_LIFT {
-                return false;
-            }
-        }
-    }
-    true
+    (0..paths.count).all(|j| paths.start[j] != d || lifts[usize::from(paths.class[j])].is_some())
 }
 
-// Whether each of m paths of T from d has one lift at c among n paths of S; over has the class of the image of each of these.
-fn each_has_one_lift<'a, 'b>(
-    start: &'a [u8; Mapping::PATHS],
-    class: &'a [u8; Mapping::PATHS],
-    over: &'a [u8; Mapping::PATHS],
-    n: usize,
-    target_start: &'b [u8; Mapping::PATHS],
-    target_class: &'b [u8; Mapping::PATHS],
-    m: usize,
+// Whether each path of T from d has one lift at c among the paths of S; over has the class of the image of each of these.
+fn each_has_one_lift(
+    source_paths: &Paths,
+    target_paths: &Paths,
+    over: &[u8; Mapping::PATHS],
     c: u8,
     d: u8,
 ) -> bool
-    requires { (n ≤ 256) × (m ≤ 256) }
-    ensures { result ≡ each_has_one_lift start.now class.now over.now n target_start.now target_class.now m c d }
+    requires { (source_paths.now.count ≤ 256) × (target_paths.now.count ≤ 256) }
+    ensures { result ≡ each_has_one_lift source_paths.now.start source_paths.now.class over.now source_paths.now.count target_paths.now.start target_paths.now.class target_paths.now.count c d }
 {
-    let lifts = lift_classes(start, class, over, n, c);
-    if lifts_unique(start, class, over, &lifts, n, c) {
-        return each_has_lift(target_start, target_class, &lifts, m, d);
-    }
-    false
+    let lifts = lift_classes(source_paths, over, c);
+    lifts_unique(source_paths, over, &lifts, c) && each_has_lift(target_paths, &lifts, d)
 }
 
 // Whether each path of T from the image of a node has one lift at that node, for each of the nodes.
-fn paths_even<'a>(
+fn paths_even(
     nodes: usize,
-    source_paths: Paths,
-    target_paths: Paths,
-    over: &'a [u8; Mapping::PATHS],
-    node: &'a [u8; Mapping::NODES],
+    source_paths: &Paths,
+    target_paths: &Paths,
+    over: &[u8; Mapping::PATHS],
+    node: &[u8; Mapping::NODES],
 ) -> bool
-    requires { (nodes ≤ 16) × (source_paths.count ≤ 256) × (target_paths.count ≤ 256) }
-    ensures { result ≡ all (even_paths_at source_paths target_paths over.now node.now) (upto nodes) }
+    requires { (nodes ≤ 16) × (source_paths.now.count ≤ 256) × (target_paths.now.count ≤ 256) }
+    ensures { result ≡ all (even_paths_at source_paths.now target_paths.now over.now node.now) (upto nodes) }
 {
-    let mut c = 0;
-    while c < nodes {
-        if each_has_one_lift(
-            &source_paths.start,
-            &source_paths.class,
-            over,
-            source_paths.count,
-            &target_paths.start,
-            &target_paths.class,
-            target_paths.count,
-            c as u8,
-            node[c],
-        ) {
-            c += 1;
-        } else {
-            return false;
-        }
-    }
-    true
+    (0..nodes).all(|c| each_has_one_lift(source_paths, target_paths, over, c as u8, node[c]))
 }
 
 // How many of the first n attributes sit at c and have the image b.
-fn count_over<'a>(
-    home: &'a [u8; Schema::ATTRIBUTES],
-    image: &'a [u8; Mapping::ATTRIBUTES],
+fn count_over(
+    home: &[u8; Schema::ATTRIBUTES],
+    image: &[u8; Mapping::ATTRIBUTES],
     n: usize,
     c: u8,
     b: u8,
@@ -188,26 +110,15 @@ fn count_over<'a>(
     requires { n ≤ 16 }
     ensures { result ≡ length (filter (is_over home.now image.now c b) (upto n)) }
 {
-    let mut found: usize = 0;
-    let mut a = 0;
-    while a < n {
-        let k = a;
-        a += 1;
-        if home[k] == c {
-            if image[k] == b {
-                found += 1;
-            }
-        }
-    }
-    found
+    (0..n).filter(|a| home[*a] == c && image[*a] == b).count()
 }
 
 // Whether each attribute of T at d, of the first count, is the image of exactly one at c.
-fn columns_even<'a>(
-    home: &'a [u8; Schema::ATTRIBUTES],
-    image: &'a [u8; Mapping::ATTRIBUTES],
+fn columns_even(
+    home: &[u8; Schema::ATTRIBUTES],
+    image: &[u8; Mapping::ATTRIBUTES],
     n: usize,
-    target_home: &'a [u8; Schema::ATTRIBUTES],
+    target_home: &[u8; Schema::ATTRIBUTES],
     count: usize,
     c: u8,
     d: u8,
@@ -215,17 +126,7 @@ fn columns_even<'a>(
     requires { (n ≤ 16) × (count ≤ 16) }
     ensures { result ≡ all (even_column_at home.now image.now n target_home.now c d) (upto count) }
 {
-    let mut b = 0;
-    while b < count {
-        let k = b;
-        b += 1;
-        if target_home[k] == d {
-            if count_over(home, image, n, c, k as u8) != 1 {
-                return false;
-            }
-        }
-    }
-    true
+    (0..count).all(|b| target_home[b] != d || count_over(home, image, n, c, b as u8) == 1)
 }
 
 // Whether, for each node c of S, each attribute at its image is the image of exactly one at c.
@@ -233,34 +134,25 @@ fn attributes_even(s: Schema, t: Schema, f: Mapping) -> bool
     requires { (s.graph.nodes ≤ 16) × (s.attributes ≤ 16) × (t.attributes ≤ 16) }
     ensures { result ≡ all (even_columns_at s t f) (upto s.graph.nodes) }
 {
-    let nodes = s.graph.nodes;
-    let mut c = 0;
-    while c < nodes {
-        let d = f.node[c];
-        if columns_even(
+    (0..s.graph.nodes).all(|c| {
+        columns_even(
             &s.node,
             &f.attribute,
             s.attributes,
             &t.node,
             t.attributes,
             c as u8,
-            d,
-        ) {
-            c += 1;
-        } else {
-            return false;
-        }
-    }
-    true
+            f.node[c],
+        )
+    })
 }
 
+// Whether a mapping is even.
 pub fn is_even(s: Schema, t: Schema, source_paths: Paths, target_paths: Paths, f: Mapping) -> bool
     requires { Schemas s t source_paths target_paths × Sound s t f }
     ensures { result ≡ even (category_of s) (category_of t) (mapping_of s f) }
 {
     let over = image_classes(s, t, source_paths, target_paths, f);
-    if paths_even(s.graph.nodes, source_paths, target_paths, &over, &f.node) {
-        return attributes_even(s, t, f);
-    }
-    false
+    paths_even(s.graph.nodes, &source_paths, &target_paths, &over, &f.node)
+        && attributes_even(s, t, f)
 }

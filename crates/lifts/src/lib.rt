@@ -14,26 +14,18 @@ use crate::even::image_classes;
 use mapping::Mapping;
 use paths::Paths;
 use schema::Schema;
-use schema::numbers::{index, wide};
 
 // The first of n numbers at which home has c and image has b, or the number none.
 // Of paths, where home has their starts and image the classes of their images, it is the lift of class b at c, with the trivial path c as none;
 // of attributes, where home has their nodes and image their images, the one at c over b, with none 0.
-pub fn first_over<'a>(home: &'a [u8], image: &'a [u8], n: usize, c: u8, b: u8, none: usize) -> usize
+// Kept: a number for none is what the crates above are promised.
+pub fn first_over(home: &[u8], image: &[u8], n: usize, c: u8, b: u8, none: usize) -> usize
     requires { (n ≤ length home.now) × (n ≤ length image.now) }
     ensures { result ≡ head_or none (filter (is_over home.now image.now c b) (upto n)) }
 {
-    let mut i = 0;
-    while i < n {
-        let k = i;
-        i += 1;
-        if home[k] == c {
-            if image[k] == b {
-                return k;
-            }
-        }
-    }
-    none
+    (0..n)
+        .find(|k| home[*k] == c && image[*k] == b)
+        .unwrap_or(none)
 }
 
 // The class of an edge of T as a path, from its source d on.
@@ -41,7 +33,7 @@ fn edge_class(target_paths: Paths, d: usize, e: usize) -> u8
     requires { (d < 257) × (e < 32) × (get_or target_paths.first d 0 + get_or target_paths.rank e 0 < 256) }
     ensures { result ≡ get_or target_paths.class (get_or target_paths.first d 0 + get_or target_paths.rank e 0) 0 }
 {
-    let x = index(target_paths.first[d]) + wide(target_paths.rank[e]);
+    let x = usize::from(target_paths.first[d]) + usize::from(target_paths.rank[e]);
     target_paths.class[x]
 }
 
@@ -59,17 +51,12 @@ pub fn edge_lifts(
     let over = image_classes(s, t, source_paths, target_paths, f);
     let g = t.graph;
     let mut lifts = [0u8; Mapping::LIFTS];
-    let mut i = 0;
-    while i < Schema::NODES * t.graph.edges {
-        let k = i;
-        let e = k / Schema::NODES;
-        let c = k % Schema::NODES;
-        i += 1;
-        if c < s.graph.nodes {
+    for e in 0..g.edges {
+        for c in 0..s.graph.nodes {
             let d = f.node[c];
             if g.source[e] == d {
-                let b = edge_class(target_paths, wide(d), e);
-                lifts[k] = first_over(
+                let b = edge_class(target_paths, usize::from(d), e);
+                lifts[Schema::NODES * e + c] = first_over(
                     &source_paths.start,
                     &over,
                     source_paths.count,
@@ -83,30 +70,20 @@ pub fn edge_lifts(
     lifts
 }
 
-// A number of rows as an index.
-fn row(x: u32) -> usize
-    ensures { (result ≡ x) × (result < 4294967296) }
-{
-    x as usize
-}
-
 // The rows that the first n nodes give to the table at d: with n a node over d, the place of its first row in the joined list.
-pub fn rows_before<'a>(
-    node: &'a [u8; Mapping::NODES],
-    counts: &'a [u32; Mapping::NODES],
+pub fn rows_before(
+    node: &[u8; Mapping::NODES],
+    counts: &[u32; Mapping::NODES],
     n: usize,
     d: u8,
 ) -> usize
     requires { n ≤ 16 }
     ensures { result ≡ joined_before node.now counts.now d n }
 {
-    let mut rows: usize = 0;
-    let mut c = 0;
-    while c < n {
-        let k = c;
-        c += 1;
-        if node[k] == d {
-            rows += row(counts[k]);
+    let mut rows = 0;
+    for c in 0..n {
+        if node[c] == d {
+            rows += counts[c] as usize;
         }
     }
     rows

@@ -1,28 +1,22 @@
--- What the reader of a mapping sheet gives, part by part, and a sheet sent back.
-use Prim.Native.Nat.{ℕ, zero, suc, ◌+◌, ◌*◌, ◌<◌, ◌≤◌}
-use mathlib.Core.Path.{◌≡◌, refl, ap, ◌∙◌}
+-- What the reader of a mapping sheet gives, part by part.
+use Prim.Native.Nat.{ℕ, ◌+◌, ◌*◌, ◌<◌, ◌≤◌}
+use mathlib.Core.Path.{◌≡◌, ap, ◌∙◌}
 use mathlib.Core.Bool.{true, false}
 use mathlib.Core.List.{List}
 use native.Mathlib.Omega.{arith}
-use borrow.Author.Tests.{ne_eqb}
-use lib.ListN.{length, get_or, replicate}
+use lib.ListN.{length}
 use Rattle.bits.specs.Field as bits
 use Rattle.theory.specs.Numbering.{tabulate}
 use Rattle.theory.proofs.Numbering.{tabulate-length}
-use Rattle.meaning.specs.Sheet.{Judged, faulty, fails, reads, times, field}
-use Rattle.meaning.specs.Formats.{Mapping, read_edges, read_mapping}
+use Rattle.meaning.specs.Sheet.{fails, reads, times, field}
+use Rattle.meaning.specs.Formats.{read_edges, read_mapping}
 use Rattle.meaning.proofs.Reading.{fixed-field, fixed-times}
 use Rattle.schema.specs.declared.Schema.{Schema}
 use Rattle.schema.specs.Decoded.{schema_of}
 use Rattle.schema.proofs.GraphEdges.{edges-count}
-use Rattle.mapping.specs.declared.Mapping as declared
-use Rattle.mapping.specs.Decoded.{Decoded, no_image, empty_image, empty_mapping}
 
 -- ---- an edge's image
 module _ (sheet : List ℕ) (p : ℕ) where
-  pub edges-short : p ≤ 8 * length sheet → 8 * length sheet < p + 4 → read_edges sheet p ≡ fails 1
-  edges-short h l = rw ((fixed-field 4).cut sheet p h l)
-
   pub edges-cut : p + 4 ≤ 8 * length sheet → 8 * length sheet < p + 4 + 5 * bits.field sheet p 4 → read_edges sheet p ≡ fails 1
   edges-cut h l = rw ((fixed-field 4).here sheet p h, (fixed-times (bits.field sheet p 4) (fixed-field 5)).cut sheet (p + 4) h l)
 
@@ -58,7 +52,7 @@ module _ (s : Schema) (sheet : List ℕ) where
     nodes-read : times n (field 4) sheet 0 ≡ reads (numbers_in sheet 0 n) (4 * n)
     nodes-read = (fixed-times n (fixed-field 4)).here sheet 0 (omega arith) ∙ ap (reads (numbers_in sheet 0 n)) (omega arith)
 
-    pub mapping-fails : {number : ℕ} → times k read_edges sheet (4 * n) ≡ fails number → read_mapping (schema_of s) sheet 0 ≡ fails number
+    pub mapping-fails : times k read_edges sheet (4 * n) ≡ fails 1 → read_mapping (schema_of s) sheet 0 ≡ fails 1
     mapping-fails e = rw (nodes-read, edges_are, e)
 
     module _ {images : List (List ℕ)} {q : ℕ} (e : times k read_edges sheet (4 * n) ≡ reads images q) where
@@ -71,12 +65,3 @@ module _ (s : Schema) (sheet : List ℕ) where
       pub mapping-read : q + 4 * a ≤ 8 * length sheet → bits.tail_ok sheet (q + 4 * a) ≡ true →
           read_mapping (schema_of s) sheet 0 ≡ reads (record { nodes = numbers_in sheet 0 n; edges = images; attributes = numbers_in sheet q a }) (q + 4 * a)
       mapping-read l o = rw (nodes-read, edges_are, e, attributes-are, (fixed-times a (fixed-field 4)).here sheet q l, o)
-
--- ---- a sheet sent back
-empty-lengths : (n e : ℕ) → (get_or (replicate n empty_image) e no_image).length ≡ 0
-empty-lengths zero e = refl
-empty-lengths (suc n) zero = refl
-empty-lengths (suc n) (suc e) = empty-lengths n e
-
-pub faulty-decoded : {s : Schema} {f : declared.Mapping} {number : ℕ} {J : Judged Mapping} → f ≡ empty_mapping (suc number) → J ≡ faulty (suc number) → Decoded s f J
-faulty-decoded {number} e h = rw (e, h) (record { says = rw (ne_eqb (suc number) 0 (λ q. omega arith)); short = record { each = λ e l. omega (arith, empty-lengths 32 e) } })

@@ -5,7 +5,7 @@ pub mod Fitting
 pub mod Imaging
 pub mod ImageTable
 pub mod Sides
-pub mod Judging
 pub mod Counting
 pub mod PathEdges
 pub mod FirstEdges
+pub mod Chains

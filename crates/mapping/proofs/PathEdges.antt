@@ -2,7 +2,7 @@
 use Prim.Native.Nat.{ℕ, zero, suc, ◌+◌, ◌-◌, ◌≤◌, ◌<◌}
 use mathlib.Core.Path.{◌≡◌, refl, sym, ap, ap₂, ◌∙◌}
 use mathlib.Core.Bool.{false}
-use mathlib.Core.List.{List, [], ◌∷◌, ◌++◌, append_assoc, append-nil}
+use mathlib.Core.List.{List, [], ◌∷◌, ◌++◌, append_assoc}
 use native.Mathlib.Omega.{arith}
 use lib.ListN.{length, get_or, set, length-append, length-set}
 use lib.Seq.{get_or-set_same, get_or-set_other}
@@ -27,9 +27,6 @@ pub record Walked (last parent : List ℕ) (i n : ℕ) (edges : List ℕ) (k x :
   pub so : edges_back last parent i n ≡ edges_back last parent x k ++ tabulate taken (λ j. get_or edges (k + j) 0)
 
 module _ {last parent : List ℕ} {i n : ℕ} where
-  pub walked_start : (edges : List ℕ) → n ≤ 15 → length edges ≡ 16 → i < 256 → Walked last parent i n edges n i
-  walked_start edges f l b = record { taken = 0; sum = omega arith; few = f; long = l; low = b; so = sym (append-nil (edges_back last parent i n)) }
-
   module _ {edges : List ℕ} {k x : ℕ} (u : Walked last parent i n edges k x) where
     abbrev v : ℕ
     v = get_or last x 0
@@ -65,16 +62,6 @@ module _ {last parent : List ℕ} {i n : ℕ} where
               ∙ append_assoc (edges_back last parent (get_or parent x 0) (k - 1)) (v ∷ []) (tabulate u.taken old)
               ∙ ap₂ (λ (z : ℕ) (t : List ℕ). edges_back last parent z (k - 1) ++ t) (sym e) (rest h);
         }
-
-    pub walked-done : k ≤ 0 → tabulate n (λ j. get_or edges j 0) ≡ edges_back last parent i n
-    walked-done h =
-        let q : k ≡ 0 = omega arith in
-        let m : u.taken ≡ n = omega (arith, u.sum) in
-        sym (
-        u.so
-        ∙ ap (λ (z : ℕ). edges_back last parent x z ++ tabulate u.taken (λ j. get_or edges (z + j) 0)) q
-        ∙ ap (λ (z : ℕ). tabulate z (λ j. get_or edges (0 + j) 0)) m
-        ∙ tabulate-same n (λ j l. ap (λ (z : ℕ). get_or edges z 0) (let w : 0 + j ≡ j = omega arith in w)))
 
 -- ---- the table of a schema's paths
 no_edges : (l : List ℕ) → length l ≡ 0 → [] ≡ l

@@ -4,7 +4,6 @@ use Rattle.theory.specs.Mapping.{image}
 use Rattle.meaning.specs.Schema as meaning
 use Rattle.meaning.specs.Formats as formats
 use Rattle.meaning.specs.Views.{path_image}
-use Rattle.meaning.specs.Sheet.{Judged}
 use Rattle.meaning.specs.Judge.{images_fit, keeps_equations}
 use Rattle.agreement.specs.Paths.{path_count, number_of, path_at}
 use Rattle.schema.specs.declared.Path.{Path}
@@ -17,7 +16,7 @@ use Rattle.paths.specs.Classes.{class_at, IsPaths}
 use Rattle.paths.specs.PathWalks.{WalkIn}
 use Rattle.mapping.specs.declared.Image.{Image}
 use Rattle.mapping.specs.declared.Mapping.{Mapping}
-use Rattle.mapping.specs.Decoded.{image_of, no_image, mapping_of, judged_mapping, Short}
+use Rattle.mapping.specs.Decoded.{image_of, no_image, mapping_of, Short}
 
 -- the node images are nodes of T
 pub record NodesIn (s t : Schema) (f : Mapping) : Type 0 where
@@ -74,7 +73,3 @@ pub record Sound (s t : Schema) (f : Mapping) : Type 0 where
   pub short : Short s.graph.edges f.edge
   pub fits : images_fit (schema_of s) (schema_of t) (mapping_of s f) ≡ true
   pub keeps : keeps_equations (category_of s) (category_of t) (mapping_of s f) ≡ true
-
-pub record Says (s t : Schema) (f : Mapping) (J : Judged formats.Mapping) : Type 0 where
-  pub says : judged_mapping s f ≡ J
-  pub sound : (f.fault ≡ 0 → Sound s t f)

@@ -13,16 +13,7 @@ fn count_to(image: &[u8; Mapping::ATTRIBUTES], n: usize, b: u8) -> usize
     requires { n ≤ 16 }
     ensures { result ≡ length (filter (eqb b) (front_of n image.now)) }
 {
-    let mut found: usize = 0;
-    let mut a = 0;
-    while a < n {
-        let k = a;
-        a += 1;
-        if b == image[k] {
-            found += 1;
-        }
-    }
-    found
+    image[..n].iter().filter(|x| **x == b).count()
 }
 
 // Refusal 13 (unpaired).
@@ -32,16 +23,8 @@ pub fn is_bijective(s: Schema, t: Schema, f: Mapping) -> bool
 {
     let image = f.attribute;
     let n = s.attributes;
-    let count = t.attributes;
-    let mut b = 0;
-    while b < count {
-        if count_to(&image, n, b as u8) == 1 {
-            b += 1;
-        } else {
-            return false;
-        }
-    }
-    true
+    let count = t.attributes as u8;
+    (0..count).all(|b| count_to(&image, n, b) == 1)
 }
 
 // The first of n attributes whose image is b, or n.
@@ -49,12 +32,5 @@ pub fn attribute_to(image: &[u8; Mapping::ATTRIBUTES], n: usize, b: u8) -> usize
     requires { n ≤ 16 }
     ensures { result ≡ position (eqb b) (front_of n image.now) }
 {
-    let mut a = 0;
-    while a < n {
-        if b == image[a] {
-            return a;
-        }
-        a += 1;
-    }
-    n
+    image[..n].iter().position(|x| *x == b).unwrap_or(n)
 }

@@ -1,123 +1,93 @@
 // What a mapping sheet holds, read into a struct: refusals 1 and 2.
-ghost use Rattle.std.specs.Prelude.{◌*◌, ◌≤◌};
+ghost use Rattle.std.specs.Prelude.{◌≡◌, ◌*◌, ◌≤◌, IfOk};
 ghost use Rattle.meaning.specs.Sheet.{on_sheet};
 ghost use Rattle.meaning.specs.Formats.{read_mapping};
 ghost use Rattle.schema.specs.Decoded.{Near, Limits, schema_of};
-ghost use Rattle.mapping.specs.Decoded.{ImageTaken, ImagesTaken, Decoded};
+ghost use Rattle.schema.specs.Faults.{judged_of};
+ghost use Rattle.mapping.specs.Decoded.{mapping_of, ImageFound, ImagesFound, Short};
 
 use crate::{Image, Mapping};
 use bits::reader::{ends_after, lacks_at};
+use schema::Schema;
 use schema::decode::{column, small};
-use schema::{Schema, faults};
+use schema::faults::Fault;
 
-// An edge's image from a position on, or that the bits end before it does.
+// An edge's image, and where what follows it begins.
 #[derive(Clone, Copy)]
 struct ImageRead {
-    cut: bool,
     next: usize,
     image: Image,
 }
 
-fn read_image(sheet: &[u8], at: usize) -> ImageRead
+// The image from a position on, if the bits do not end before it does.
+fn read_image(sheet: &[u8], at: usize) -> Option<ImageRead>
     requires { Near sheet.now at 79 }
-    ensures { ImageTaken sheet.now at result }
+    ensures { ImageFound sheet.now at result }
 {
-    let none = Image::empty();
     if lacks_at(sheet, at, 4) {
-        return ImageRead {
-            cut: true,
-            next: at,
-            image: none,
-        };
+        return None;
     }
     let length = small(sheet, at, 4);
-    let n = length as usize;
+    let n = usize::from(length);
     if lacks_at(sheet, at + 4, 5 * n) {
-        return ImageRead {
-            cut: true,
-            next: at,
-            image: none,
-        };
+        return None;
     }
     let edges = column(sheet, at + 4, 5, 5, n);
-    let image = Image {
-        length: length,
-        edges: edges,
-    };
-    ImageRead {
-        cut: false,
+    Some(ImageRead {
         next: at + 4 + 5 * n,
-        image: image,
-    }
+        image: Image { length, edges },
+    })
 }
 
-// The images of n edges, one after the other.
+// The images of edges, and where what follows them begins.
 #[derive(Clone, Copy)]
 struct ImagesRead {
-    cut: bool,
     next: usize,
     edge: [Image; Mapping::EDGES],
 }
 
-fn read_images(sheet: &[u8], at: usize, n: usize) -> ImagesRead
+// The images of n edges, one after the other, if the bits do not end before they do.
+fn read_images(sheet: &[u8], at: usize, n: usize) -> Option<ImagesRead>
     requires { Near sheet.now at (79 * n) × (n ≤ 32) }
-    ensures { ImagesTaken sheet.now at n result }
+    ensures { ImagesFound sheet.now at n result }
 {
-    let none = Image::empty();
-    let mut edge = [none; Mapping::EDGES];
-    let mut i = 0;
-    let mut p = at;
-    while i < n {
-        let read = read_image(sheet, p);
-        if read.cut {
-            return ImagesRead {
-                cut: true,
-                next: at,
-                edge: edge,
-            };
-        }
-        let image = read.image;
-        edge[i] = image;
-        p = read.next;
-        i += 1;
+    let mut edge = [Image::empty(); Mapping::EDGES];
+    let mut next = at;
+    for i in 0..n {
+        let read = read_image(sheet, next)?;
+        edge[i] = read.image;
+        next = read.next;
     }
-    ImagesRead {
-        cut: false,
-        next: p,
-        edge: edge,
-    }
+    Some(ImagesRead { next, edge })
 }
 
-// What a mapping sheet says, or the number with which it is sent back before any test of its sense.
-pub fn decode_mapping(s: Schema, sheet: &[u8]) -> Mapping
+// What a mapping sheet says, before any test of its sense.
+pub fn decode_mapping(s: Schema, sheet: &[u8]) -> Result<Mapping, Fault>
     requires { Limits s }
-    ensures { Decoded s result (on_sheet (read_mapping (schema_of s)) sheet.now) }
+    ensures says { judged_of (mapping_of s) result ≡ on_sheet (read_mapping (schema_of s)) sheet.now }
+    ensures short { IfOk result (λ f. Short s.graph.edges f.edge) }
 {
     let nodes = s.graph.nodes;
     let attributes = s.attributes;
     let first = 4 * nodes;
     if lacks_at(sheet, 0, first) {
-        return Mapping::faulty(faults::CUT);
+        return Err(Fault::Cut);
     }
-    let images = read_images(sheet, first, s.graph.edges);
-    if images.cut {
-        return Mapping::faulty(faults::CUT);
-    }
+    let images = read_images(sheet, first, s.graph.edges).ok_or(Fault::Cut)?;
     let middle = images.next;
     let last = 4 * attributes;
     if lacks_at(sheet, middle, last) {
-        return Mapping::faulty(faults::CUT);
+        return Err(Fault::Cut);
     }
-    if ends_after(sheet, middle, last) {
-        let node = column(sheet, 0, 4, 4, nodes);
-        let attribute = column(sheet, middle, 4, 4, attributes);
-        let edge = images.edge;
-        return Mapping {
-            fault: 0,
-            node: node,
-            edge: edge,
-            attribute: attribute,
-        };
+    if !ends_after(sheet, middle, last) {
+        return Err(Fault::Tail);
     }
-    Mapping::faulty(faults::TAIL)
+    let node = column(sheet, 0, 4, 4, nodes);
+    let attribute = column(sheet, middle, 4, 4, attributes);
+    let edge = images.edge;
+    Ok(Mapping {
+        node,
+        edge,
+        attribute,
+    })
 }

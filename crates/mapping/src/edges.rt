@@ -4,7 +4,6 @@ ghost use Rattle.schema.specs.Judged.{Sound, SoundPath};
 ghost use Rattle.mapping.specs.PathEdges.{EdgesTaken, FirstTaken};
 
 use crate::Image;
-use crate::images::index;
 use paths::walk::path_number;
 use paths::{Paths, path_table};
 use schema::{Path, Schema};
@@ -15,19 +14,13 @@ pub fn path_edges(paths: Paths, i: usize) -> Image
     ensures { EdgesTaken paths i result }
 {
     let mut edges = [0u8; Path::EDGES];
-    let n = index(paths.length[i]);
-    let mut k = n;
+    let length = paths.length[i];
     let mut x = i;
-    while 0 < k {
-        k -= 1;
+    for k in (0..usize::from(length)).rev() {
         edges[k] = paths.last[x];
-        x = index(paths.parent[x]);
+        x = usize::from(paths.parent[x]);
     }
-    let length = n as u8;
-    Image {
-        length: length,
-        edges: edges,
-    }
+    Image { length, edges }
 }
 
 // The edges of the first path of the class of a judged path, which has its start.
@@ -37,6 +30,6 @@ pub fn first_edges(t: Schema, w: Path) -> Image
 {
     let p = path_table(t);
     let x = path_number(p, w);
-    let first = index(p.class[x]);
+    let first = usize::from(p.class[x]);
     path_edges(p, first)
 }

@@ -10,23 +10,15 @@ ghost use Rattle.mapping.specs.Decoded.{image_of, mapping_of, Short};
 ghost use Rattle.mapping.specs.Judged.{NodesIn};
 
 use crate::{Image, Mapping};
-use schema::numbers::wide;
 use schema::well_formed::follow;
 use schema::{Graph, Path, Schema};
 
+// Whether the images of n nodes are below a bound.
 fn nodes_fit(node: &[u8; Mapping::NODES], n: usize, bound: usize) -> bool
     requires { n ≤ 16 }
     ensures { result ≡ all (λ d. ltb d bound) (front_of n node.now) }
 {
-    let mut c = 0;
-    while c < n {
-        if wide(node[c]) < bound {
-            c += 1;
-        } else {
-            return false;
-        }
-    }
-    true
+    node[..n].iter().all(|d| usize::from(*d) < bound)
 }
 
 // Whether edges join up, from one node to another.
@@ -36,17 +28,14 @@ fn image_fits(g: Graph, image: Image, start: u8, end: u8) -> bool
 {
     let edges = image.edges;
     let path = Path {
-        start: start,
+        start,
         length: image.length,
-        edges: edges,
+        edges,
     };
-    let followed = follow(g, path);
-    if followed.joins {
-        return followed.last == end;
-    }
-    false
+    follow(g, path) == Some(end)
 }
 
+// Whether each edge's image joins up, from the image of its source to that of its target.
 fn edges_fit(s: Schema, t: Schema, f: Mapping) -> bool
     requires { Sound s × Sound t × NodesIn s t f × Short s.graph.edges f.edge }
     ensures { result ≡ all (edge_image_fits (schema_of s) (schema_of t) (mapping_of s f)) (upto s.graph.edges) }
@@ -55,15 +44,10 @@ fn edges_fit(s: Schema, t: Schema, f: Mapping) -> bool
     let h = t.graph;
     let node = f.node;
     let edge = f.edge;
-    let edges = g.edges;
-    let mut e = 0;
-    while e < edges {
-        let source = wide(g.source[e]);
-        let target = wide(g.target[e]);
-        let image = edge[e];
-        if image_fits(h, image, node[source], node[target]) {
-            e += 1;
-        } else {
+    for e in 0..g.edges {
+        let source = usize::from(g.source[e]);
+        let target = usize::from(g.target[e]);
+        if !image_fits(h, edge[e], node[source], node[target]) {
             return false;
         }
     }
@@ -71,9 +55,9 @@ fn edges_fit(s: Schema, t: Schema, f: Mapping) -> bool
 }
 
 // Whether attribute b of count is there, of a kind and at a node.
-fn attribute_fits<'a>(
-    node: &'a [u8; Schema::ATTRIBUTES],
-    kind: &'a [u8; Schema::ATTRIBUTES],
+fn attribute_fits(
+    node: &[u8; Schema::ATTRIBUTES],
+    kind: &[u8; Schema::ATTRIBUTES],
     count: usize,
     b: usize,
     at_node: u8,
@@ -82,14 +66,10 @@ fn attribute_fits<'a>(
     requires { count ≤ 16 }
     ensures { result ≡ (ltb b count && eqb (get_or kind.now b 0) of_kind && eqb (get_or node.now b 0) at_node) }
 {
-    if b < count {
-        if kind[b] == of_kind {
-            return node[b] == at_node;
-        }
-    }
-    false
+    b < count && kind[b] == of_kind && node[b] == at_node
 }
 
+// Whether each attribute's image has its kind, and sits at its node's image.
 fn attributes_fit(s: Schema, t: Schema, f: Mapping) -> bool
     requires { Sound s × Sound t }
     ensures { result ≡ all (attribute_image_fits (schema_of s) (schema_of t) (mapping_of s f)) (upto s.attributes) }
@@ -100,29 +80,21 @@ fn attributes_fit(s: Schema, t: Schema, f: Mapping) -> bool
     let kinds = s.kind;
     let images = f.node;
     let columns = f.attribute;
-    let attributes = s.attributes;
-    let mut a = 0;
-    while a < attributes {
-        let home = wide(homes[a]);
-        let b = wide(columns[a]);
-        if attribute_fits(&node, &kind, t.attributes, b, images[home], kinds[a]) {
-            a += 1;
-        } else {
+    for a in 0..s.attributes {
+        let home = usize::from(homes[a]);
+        let b = usize::from(columns[a]);
+        if !attribute_fits(&node, &kind, t.attributes, b, images[home], kinds[a]) {
             return false;
         }
     }
     true
 }
 
+// Refusal 7 (misfit).
 pub fn images_fit(s: Schema, t: Schema, f: Mapping) -> bool
     requires { Sound s × Sound t × Short s.graph.edges f.edge }
     ensures { result ≡ images_fit (schema_of s) (schema_of t) (mapping_of s f) }
 {
     let node = f.node;
-    if nodes_fit(&node, s.graph.nodes, t.graph.nodes) {
-        if edges_fit(s, t, f) {
-            return attributes_fit(s, t, f);
-        }
-    }
-    false
+    nodes_fit(&node, s.graph.nodes, t.graph.nodes) && edges_fit(s, t, f) && attributes_fit(s, t, f)
 }

@@ -1,5 +1,5 @@
 // Images of paths of S as their numbers among the paths of T; and refusal 8: whether the sides of each equation have equal images.
-ghost use Rattle.std.specs.Prelude.{◌≡◌, ◌<◌, get_or};
+ghost use Rattle.std.specs.Prelude.{◌≡◌, get_or};
 ghost use Rattle.meaning.specs.Judge.{keeps_equations};
 ghost use Rattle.schema.specs.Decoded.{path_of, schema_of, category_of};
 ghost use Rattle.paths.specs.Table.{Filled};
@@ -11,15 +11,7 @@ use crate::{Image, Mapping};
 use paths::Paths;
 use paths::classes::same_class;
 use paths::walk::walk;
-use schema::numbers::wide;
 use schema::{Path, Schema};
-
-// A byte as an index into a table of paths.
-pub fn index(x: u8) -> usize
-    ensures { (result ≡ x) × (result < 256) }
-{
-    x as usize
-}
 
 // A path's image: its parent's, followed by the image of its last edge.
 pub fn path_images(
@@ -40,58 +32,48 @@ pub fn path_images(
     let node = f.node;
     let edge = f.edge;
     let mut path = [0u8; Mapping::PATHS];
-    let mut i = 0;
-    while i < count {
-        let k = i;
-        i += 1;
+    for k in 0..count {
         if k < s.graph.nodes {
             path[k] = node[k];
         } else {
-            let parent = wide(parents[k]);
-            let last = wide(lasts[k]);
+            let parent = usize::from(parents[k]);
+            let last = usize::from(lasts[k]);
             let image = edge[last];
-            path[k] = walk(
-                &first,
-                &rank,
-                wide(path[parent]),
-                &image.edges,
-                image.length as usize,
-            ) as u8;
+            let start = usize::from(path[parent]);
+            let n = usize::from(image.length);
+            path[k] = walk(&first, &rank, start, &image.edges, n) as u8;
         }
     }
     path
 }
 
 // The number of the image of a path: from the trivial path at the image of its start, the images of its edges are walked.
-fn image_number<'a>(
-    first: &'a [u16; Schema::PATHS + 1],
-    rank: &'a [u8; Schema::EDGES],
-    node: &'a [u8; Mapping::NODES],
+fn image_number(
+    first: &[u16; Schema::PATHS + 1],
+    rank: &[u8; Schema::EDGES],
+    node: &[u8; Mapping::NODES],
     edge: [Image; Mapping::EDGES],
     p: Path,
 ) -> usize
     requires { Walkable first.now rank.now node.now edge p }
     ensures { result ≡ walk_from first.now rank.now (get_or node.now p.start 0) (joined_images edge (path_of p).edges) }
 {
-    let n = p.length as usize;
-    let mut x = wide(node[wide(p.start)]);
-    let mut i = 0;
-    while i < n {
-        let e = wide(p.edges[i]);
-        let image = edge[e];
-        x = walk(first, rank, x, &image.edges, image.length as usize);
-        i += 1;
+    let n = usize::from(p.length);
+    let mut x = usize::from(node[usize::from(p.start)]);
+    for e in &p.edges[..n] {
+        let image = edge[usize::from(*e)];
+        x = walk(first, rank, x, &image.edges, usize::from(image.length));
     }
     x
 }
 
 // Refusal 8: whether the sides of each equation have images of one class. Where there are no equations, nothing is copied.
-pub fn sides_agree<'a>(
+pub fn sides_agree(
     s: Schema,
     t: Schema,
-    first: &'a [u16; Schema::PATHS + 1],
-    rank: &'a [u8; Schema::EDGES],
-    class: &'a [u8; Schema::PATHS],
+    first: &[u16; Schema::PATHS + 1],
+    rank: &[u8; Schema::EDGES],
+    class: &[u8; Schema::PATHS],
     f: Mapping,
 ) -> bool
     requires { Testable s t first.now rank.now class.now f }
@@ -105,13 +87,10 @@ pub fn sides_agree<'a>(
     let rights = s.right;
     let node = f.node;
     let edge = f.edge;
-    let mut q = 0;
-    while q < n {
+    for q in 0..n {
         let left = image_number(first, rank, &node, edge, lefts[q]);
         let right = image_number(first, rank, &node, edge, rights[q]);
-        if same_class(class, left, right) {
-            q += 1;
-        } else {
+        if !same_class(class, left, right) {
             return false;
         }
     }

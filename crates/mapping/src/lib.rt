@@ -7,16 +7,19 @@ pub mod edges;
 pub mod fits;
 pub mod images;
 
-ghost use Rattle.std.specs.Prelude.{◌≡◌};
+ghost use Rattle.std.specs.Prelude.{◌≡◌, IfOk};
 ghost use Rattle.meaning.specs.Judge.{judge_mapping};
 ghost use Rattle.schema.specs.Decoded.{schema_of, category_of};
+ghost use Rattle.schema.specs.Faults.{judged_of};
 ghost use Rattle.schema.specs.Judged as schemas;
-ghost use Rattle.mapping.specs.Decoded.{empty_image, empty_mapping};
-ghost use Rattle.mapping.specs.Judged.{Numbers, Says};
+ghost use Rattle.mapping.specs.Decoded.{empty_image, mapping_of};
+ghost use Rattle.mapping.specs.Judged.{Numbers, Sound};
 
-use schema::{Path, Schema, faults};
+use schema::faults::Fault;
+use schema::{Path, Schema};
 
 // The image of an edge: edges of T, from the image of the edge's source on. Their number is a field of 4 bits.
+// Kept: a length beside its array, as a path has it.
 #[derive(Clone, Copy)]
 pub struct Image {
     pub length: u8,
@@ -35,10 +38,9 @@ impl Image {
     }
 }
 
-// What a mapping sheet says; fault is 0, or the number with which the sheet is sent back.
+// What a mapping sheet says.
 #[derive(Clone, Copy)]
 pub struct Mapping {
-    pub fault: u8,
     pub node: [u8; Mapping::NODES],
     pub edge: [Image; Mapping::EDGES],
     pub attribute: [u8; Mapping::ATTRIBUTES],
@@ -55,43 +57,28 @@ impl Mapping {
 
     // A place for each edge of T and each node of S.
     pub const LIFTS: usize = Schema::EDGES * Schema::NODES;
-
-    // A sheet sent back with a number.
-    pub fn faulty(number: u8) -> Mapping
-        ensures { result ≡ empty_mapping number }
-    {
-        let none = Image::empty();
-        Mapping {
-            fault: number,
-            node: [0u8; Mapping::NODES],
-            edge: [none; Mapping::EDGES],
-            attribute: [0u8; Mapping::ATTRIBUTES],
-        }
-    }
 }
 
-// A mapping sheet judged, between two schemas: what it says, or the first number that applies to it. Of the table of T's paths, first and rank number the
-// images of the equations' sides, and class has their classes.
-pub fn judge_mapping<'a>(
+// A mapping sheet judged, between two schemas: what it says, or the first fault that it has. Of the table of T's paths, first and rank number the images of the
+// equations' sides, and class has their classes.
+pub fn judge_mapping(
     s: Schema,
     t: Schema,
-    first: &'a [u16; Schema::PATHS + 1],
-    rank: &'a [u8; Schema::EDGES],
-    class: &'a [u8; Schema::PATHS],
+    first: &[u16; Schema::PATHS + 1],
+    rank: &[u8; Schema::EDGES],
+    class: &[u8; Schema::PATHS],
     sheet: &[u8],
-) -> Mapping
+) -> Result<Mapping, Fault>
     requires { schemas.Sound s × schemas.Sound t × Numbers (schema_of t) first.now rank.now class.now }
-    ensures { Says s t result (judge_mapping (category_of s) (category_of t) sheet.now) }
+    ensures says { judged_of (mapping_of s) result ≡ judge_mapping (category_of s) (category_of t) sheet.now }
+    ensures sound { IfOk result (Sound s t) }
 {
-    let f = decode::decode_mapping(s, sheet);
-    if f.fault > 0 {
-        return f;
+    let f = decode::decode_mapping(s, sheet)?;
+    if !fits::images_fit(s, t, f) {
+        return Err(Fault::Misfit);
     }
-    if fits::images_fit(s, t, f) {
-        if images::sides_agree(s, t, first, rank, class, f) {
-            return f;
-        }
-        return Mapping::faulty(faults::BROKEN_RULE);
+    if !images::sides_agree(s, t, first, rank, class, f) {
+        return Err(Fault::BrokenRule);
     }
-    Mapping::faulty(faults::MISFIT)
+    Ok(f)
 }

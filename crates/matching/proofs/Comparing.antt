@@ -1,16 +1,27 @@
 -- The test of a matching over working arrays is the meaning's.
-use Prim.Native.Nat.{ℕ, ◌+◌, ◌*◌, ◌≤◌, ◌<◌}
+use Prim.Native.Nat.{ℕ, zero, suc, ◌+◌, ◌*◌, ◌≤◌, ◌<◌}
 use mathlib.Core.Path.{◌≡◌, refl, sym, ap, ap₂, ◌∙◌}
-use mathlib.Core.Bool.{Bool, true, false}
-use mathlib.Core.List.{List, []}
+use mathlib.Core.Bool.{Bool, true, false, ◌&&◌}
+use mathlib.Core.List.{List, [], ◌∷◌}
 use native.Mathlib.Omega.{arith}
 use native.Mathlib.Nat.{le_trans}
+use native.Mathlib.Numerals.{add-one}
 use lib.Dec.{ltb, eqb}
 use lib.ListN.{length, get_or}
 use borrow.Author.Tests.{ltb-true}
 use Rattle.theory.specs.Numbering.{tabulate}
 use Rattle.theory.proofs.Numbering.{tabulate-length, tabulate-get_or}
-use Rattle.meaning.specs.Lists.{upto, all}
+use denote.Param.Members.{Mut}
+use Rattle.std.specs.declared.ops.Range.{Range}
+use Rattle.std.specs.Fn.{Called}
+use Rattle.std.specs.Iterator.{YieldsThen}
+use Rattle.std.specs.List.{list_all, range_with_len, FoldsTo}
+use Rattle.std.specs.Option.{MatchOption}
+use Rattle.std.proofs.Common.{Option}
+use Rattle.std.proofs.iter.Yields.{nat_range_steps}
+use Rattle.std.proofs.lemmas.Iterator.{YieldsList-from_range}
+use Rattle.std.proofs.lemmas.Iterator.Search.{all_from_yields_List}
+use Rattle.meaning.specs.Lists.{range, upto, all}
 use Rattle.meaning.specs.Schema.{Attribute}
 use Rattle.meaning.specs.Formats as meaning
 use Rattle.meaning.specs.Formats.{table_list}
@@ -30,7 +41,22 @@ use Rattle.instance.proofs.Following.{count_at, link-in}
 use Rattle.matching.specs.Compared.{partners_of, first_in, count_in, each_row, partner_at, link_kept, value_kept, exist_test, link_test, value_test, TablesListed, ColumnsPaired, LinksPaired, Comparable}
 use Rattle.matching.proofs.TableRows.{column-entry, count-is, table-within, partner-is}
 
--- a test of the first n numbers goes by what it says of each
+-- ---- what `all` answers over the numbers below n
+numbers : (a n : ℕ) → range_with_len a n ≡ range a n
+numbers a zero = refl
+numbers a (suc n) = rw (add-one a) (ap (λ (l : List ℕ). a ∷ l) (numbers (suc a) n))
+
+all-list : (f : ℕ → Bool) (l : List ℕ) → list_all f l ≡ all f l
+all-list f [] = refl
+all-list f (x ∷ l) = ap (λ (b : Bool). f x && b) (all-list f l)
+
+module _ {F : Type 0} {g : Mut F (ℕ × Unit {0}) Bool} {u : Range ℕ} {f : F} {r : Bool} (test : ℕ → Bool) (n : ℕ) where
+  pub all-below : (xs : List ℕ) × (o : Option ℕ) × (j : F) × YieldsThen nat_range_steps (record { start = 0; end = n }) xs o u × FoldsTo (λ p x q. Called g p (x, tt) true q) f xs j
+      × MatchOption o (r ≡ true) (λ x. (r ≡ false) × ((h : F) × Called g j (x, tt) false h))
+      → ((x : ℕ) (b : Bool) (q : F) → Called g f (x, tt) b q → (q ≡ f) × (b ≡ test x)) → r ≡ all test (tabulate n (λ k. k))
+  all-below ran each = all_from_yields_List test _ _ r ran (YieldsList-from_range 0 n n refl (omega arith)) each ∙ all-list test _ ∙ ap (all test) (numbers 0 n ∙ upto-tabulate n)
+
+-- ---- a test of the first n numbers goes by what it says of each
 entries-same : (f g : ℕ → Bool) (y : ℕ → ℕ) {n m : ℕ} → n ≡ m → ((r : ℕ) → r < n → f r ≡ g (y r)) → all f (upto n) ≡ all g (tabulate m y)
 entries-same f g y {n} e h = ap (all f) (upto-tabulate n) ∙ all_same f g n (λ r. r) y h ∙ ap (λ (k : ℕ). all g (tabulate k y)) e
 
@@ -75,9 +101,9 @@ module _ {t : Schema} {a : Instance} {links values : List ℕ} {b : Instance} {l
     partner-in c l r h =
         ltb-true _ _ (all-at (λ x. ltb x (get_or b.counts c 0)) (count_in tables c) (partner_at list (first_in tables c)) (all-at (exist_test tables b.counts list) nodes (λ c. c) exist c l) r h)
 
-    columns-paired : (n : ℕ) (home : List ℕ) {x y : List ℕ} → n ≤ length home → ((k : ℕ) → k < n → get_or home k 0 < nodes) → 512 * n ≤ length x → 512 * n ≤ length y → ColumnsPaired n nodes home tables list x y
+    columns-paired : (n : ℕ) (home : List ℕ) {x y : List ℕ} → n ≤ length home → ((k : ℕ) → k < n → get_or home k 0 < nodes) → 512 * n ≤ length x → 512 * n ≤ length y → ColumnsPaired n home tables list x y
     columns-paired n home e h p q = record {
-      homes = record { few = K.sound.limits.nodes; long = e; table = h };
+      homes = record { long = e; table = λ k l. omega (arith, h k l, K.sound.limits.nodes) };
       each = λ k l.
           let w = within (get_or home k 0) (h k l) in
           let few = sum_of-part nodes (λ c. get_or b.counts c 0) (get_or home k 0) (h k l) in
@@ -99,12 +125,12 @@ module _ {t : Schema} {a : Instance} {links values : List ℕ} {b : Instance} {l
         rw (← rows_at (target_of e) u, count_at t K.sound a links values (target_of e) u)
         (link-in t K.sound a links values K.limits K.room.for_links K.links_in e l r (rw (← count_at t K.sound a links values (source_of e) s, rows_at (source_of e) s) h))
 
-    pub links-paired : length t.graph.source ≡ 32 → length t.graph.target ≡ 32 → LinksPaired edges nodes t.graph.source t.graph.target tables list links links'
+    pub links-paired : length t.graph.source ≡ 32 → length t.graph.target ≡ 32 → LinksPaired edges t.graph.source t.graph.target tables list links links'
     links-paired s u =
         let few = K.sound.limits.edges in
         record {
           sources = columns-paired edges t.graph.source (omega arith) (source_in t K.sound) (omega (arith, K.room.for_links)) (omega (arith, K.room'.for_links));
-          targets = record { few = K.sound.limits.nodes; long = omega arith; table = target-in t K.sound };
+          targets = record { long = omega arith; table = λ e l. omega (arith, target-in t K.sound e l, K.sound.limits.nodes) };
           each = λ e l. record { listed = λ r h. omega (arith, target_row e l r h, within (target_of e) (target-in t K.sound e l), K.long) };
         }
 
@@ -144,7 +170,7 @@ module _ {t : Schema} {a : Instance} {links values : List ℕ} {b : Instance} {l
     abbrev home_of : ℕ → ℕ
     home_of k = get_or t.node k 0
 
-    pub values-paired : length t.node ≡ 16 → ColumnsPaired attributes nodes t.node tables list values values'
+    pub values-paired : length t.node ≡ 16 → ColumnsPaired attributes t.node tables list values values'
     values-paired e =
         let few = K.sound.limits.attributes in
         columns-paired attributes t.node (omega arith) (home_in t K.sound) (omega (arith, K.room.for_values)) (omega (arith, K.room'.for_values))

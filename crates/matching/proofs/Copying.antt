@@ -2,15 +2,12 @@
 use Prim.Native.Nat.{ℕ, ◌+◌, ◌<◌}
 use mathlib.Core.Path.{◌≡◌, ◌∙◌}
 use mathlib.Core.List.{List}
-use borrow.Author.Count.{below_none, below_more}
+use borrow.Author.Count.{below_more}
 use lib.ListN.{get_or}
 use Rattle.instance.specs.declared.tables.Table.{Table}
 use Rattle.instance.specs.Stored.{Copied}
 use Rattle.matching.specs.Compared.{first_in, count_in}
 use Rattle.matching.specs.Turned.{Moveable, Moved}
-
-pub moved_none : (from to : List Table) (list out : List ℕ) → Moved 0 from to list out
-moved_none from to list out = record { each = below_none _ }
 
 pub moved_more : {n : ℕ} {from to : List Table} {list l : List ℕ} → Moveable n from to list l → {c : ℕ} {out r : List ℕ} → Moved c from to list out → c < n
     → Copied list (first_in from c) (count_in from c) (first_in to c) out r → Moved (c + 1) from to list r

@@ -1,5 +1,5 @@
 -- Where the rows of each table of the run stand in the joined lists, table by table.
-use Prim.Native.Nat.{ℕ, ◌+◌, ◌≤◌, ◌<◌}
+use Prim.Native.Nat.{ℕ, ◌+◌, ◌<◌}
 use mathlib.Core.Path.{◌≡◌, sym, ap, ◌∙◌}
 use mathlib.Core.List.{List}
 use mathlib.Core.Logic.{if_pos, if_neg}
@@ -17,8 +17,7 @@ use Rattle.matching.specs.Compared.{first_in, count_in}
 use Rattle.matching.specs.Turned.{share_in, place_in, Placed}
 
 -- the first c tables have their places, and `next` says where the next rows of each joined list go
-pub record Placing (n : ℕ) (node : List ℕ) (own joined next places : List Table) (c : ℕ) : Type 0 where
-  pub some : c ≤ n
+pub record Placing (node : List ℕ) (own joined next places : List Table) (c : ℕ) : Type 0 where
   pub next_is : (d : ℕ) → d < 16 → first_in next d ≡ first_in joined d + sum (share_in node own d) c
   pub placed : Placed c node own joined places
   pub next_long : length next ≡ 16
@@ -28,16 +27,16 @@ sum_more : (w : ℕ → ℕ) (c : ℕ) → sum w (c + 1) ≡ sum w c + w c
 unfolding sum
 sum_more w c = ap (sum w) (add-one c)
 
-pub placing-start : (n : ℕ) (node : List ℕ) (own joined : List Table) → length own ≡ 16 → length joined ≡ 16 → Placing n node own joined joined own 0
+pub placing-start : (node : List ℕ) (own joined : List Table) → length own ≡ 16 → length joined ≡ 16 → Placing node own joined joined own 0
 unfolding sum
-placing-start n node own joined e f = record { some = omega arith; next_is = λ d h. omega arith; placed = record { each = below_none _ }; next_long = f; places_long = e }
+placing-start node own joined e f = record { next_is = λ d h. omega arith; placed = record { each = below_none _ }; next_long = f; places_long = e }
 
-module _ {n : ℕ} {node : List ℕ} {own joined next places : List Table} {c : ℕ} (u : Placing n node own joined next places c) (low : get_or node c 0 < 16) where
+module _ {node : List ℕ} {own joined next places : List Table} {c : ℕ} (u : Placing node own joined next places c) (low : get_or node c 0 < 16) where
   abbrev d₀ : ℕ
   d₀ = get_or node c 0
 
   -- the place of table c is the next one of its joined list
-  pub place-next : first_in next d₀ ≡ place_in node own joined c
+  place-next : first_in next d₀ ≡ place_in node own joined c
   place-next = u.next_is d₀ low
 
   abbrev after : Table
@@ -56,11 +55,10 @@ module _ {n : ℕ} {node : List ℕ} {own joined next places : List Table} {c : 
         omega (arith, sum_more (share_in node own d) c, u.next_is d h)
   ]
 
-  pub placing-more : c < n → n ≤ 16 → Placing n node own joined (set next d₀ after) (set places c (record { first = first_in next d₀; count = count_in own c })) (c + 1)
-  placing-more l few =
+  pub placing-more : c < 16 → Placing node own joined (set next d₀ after) (set places c (record { first = first_in next d₀; count = count_in own c })) (c + 1)
+  placing-more l =
       let here : Table = record { first = first_in next d₀; count = count_in own c } in
       record {
-        some = omega arith;
         next_is = next_more;
         placed = record {
           each = filled {A = Table} (λ k x. x ≡ record { first = place_in node own joined k; count = count_in own k }) no_table places c (omega (arith, u.places_long))

@@ -64,19 +64,18 @@ pub record TablesListed (n : ℕ) (tables : List Table) (list : List ℕ) : Type
   pub few : n ≤ 16
   pub listed : (c : ℕ) → c < n → first_in tables c + count_in tables c ≤ length list
 
--- n columns, each of one of m tables
-pub record Homes (n m : ℕ) (home : List ℕ) : Type 0 where
-  pub few : m ≤ 16
+-- n columns, each of one of 16 tables
+pub record Homes (n : ℕ) (home : List ℕ) : Type 0 where
   pub long : n ≤ length home
-  pub table : (k : ℕ) → k < n → get_or home k 0 < m
+  pub table : (k : ℕ) → k < n → get_or home k 0 < 16
 
-pub record ColumnsPaired (n m : ℕ) (home : List ℕ) (tables : List Table) (list a b : List ℕ) : Type 0 where
-  pub homes : Homes n m home
+pub record ColumnsPaired (n : ℕ) (home : List ℕ) (tables : List Table) (list a b : List ℕ) : Type 0 where
+  pub homes : Homes n home
   pub each : (k : ℕ) → k < n → Paired list (first_in tables (get_or home k 0)) a b (512 * k) (count_in tables (get_or home k 0))
 
-pub record LinksPaired (n m : ℕ) (source target : List ℕ) (tables : List Table) (list a b : List ℕ) : Type 0 where
-  pub sources : ColumnsPaired n m source tables list a b
-  pub targets : Homes n m target
+pub record LinksPaired (n : ℕ) (source target : List ℕ) (tables : List Table) (list a b : List ℕ) : Type 0 where
+  pub sources : ColumnsPaired n source tables list a b
+  pub targets : Homes n target
   pub each : (e : ℕ) → e < n → Targets list (first_in tables (get_or target e 0)) a (512 * e) (count_in tables (get_or source e 0))
 
 -- ---- of two instances: links of A lead to rows

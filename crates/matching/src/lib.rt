@@ -13,9 +13,8 @@ ghost use Rattle.instance.specs.Decoded.{tables_of};
 ghost use Rattle.matching.specs.Compared.{partners_of, exist_test, link_test, value_test, TablesListed, ColumnsPaired, LinksPaired, Comparable};
 
 use instance::Instance;
-use instance::decode::wide;
 use instance::range::column_below;
-use instance::tables::{Table, table_among, table_list};
+use instance::tables::{Table, table_list};
 use rows::{links_agree, values_agree};
 use schema::Schema;
 
@@ -24,22 +23,15 @@ fn partners_exist(n: usize, tables: [Table; Schema::NODES], counts: &[u32], list
     requires { TablesListed n tables list.now × (n ≤ length counts.now) }
     ensures { result ≡ all (exist_test tables counts.now list.now) (tabulate n (λ c. c)) }
 {
-    let mut c = 0;
-    while c < n {
-        let table = table_among(tables, n, c);
-        if column_below(list, table.first, table.count, wide(counts[c])) {
-            c += 1;
-        } else {
-            return false;
-        }
-    }
-    true
+    (0..n).all(|c| {
+        let table = tables[c];
+        column_below(list, table.first, table.count, counts[c] as usize)
+    })
 }
 
 // Whether along each of n edges the partner of a row's target is the target of the row's partner.
 fn links_kept(
     n: usize,
-    nodes: usize,
     source: &[u8],
     target: &[u8],
     tables: [Table; Schema::NODES],
@@ -47,14 +39,13 @@ fn links_kept(
     a_links: &[u32],
     b_links: &[u32],
 ) -> bool
-    requires { LinksPaired n nodes source.now target.now tables list.now a_links.now b_links.now }
+    requires { LinksPaired n source.now target.now tables list.now a_links.now b_links.now }
     ensures { result ≡ all (link_test source.now target.now tables list.now a_links.now b_links.now) (tabulate n (λ e. e)) }
 {
-    let mut e = 0;
-    while e < n {
-        let from = table_among(tables, nodes, source[e] as usize);
-        let to = table_among(tables, nodes, target[e] as usize);
-        if links_agree(
+    (0..n).all(|e| {
+        let from = tables[usize::from(source[e])];
+        let to = tables[usize::from(target[e])];
+        links_agree(
             list,
             from.first,
             to.first,
@@ -62,45 +53,33 @@ fn links_kept(
             b_links,
             Instance::ROWS * e,
             from.count,
-        ) {
-            e += 1;
-        } else {
-            return false;
-        }
-    }
-    true
+        )
+    })
 }
 
 // Whether each of n attributes has the same value at a row and its partner.
 fn values_kept(
     n: usize,
-    nodes: usize,
     node: &[u8],
     tables: [Table; Schema::NODES],
     list: &[u32],
     a_values: &[u32],
     b_values: &[u32],
 ) -> bool
-    requires { ColumnsPaired n nodes node.now tables list.now a_values.now b_values.now }
+    requires { ColumnsPaired n node.now tables list.now a_values.now b_values.now }
     ensures { result ≡ all (value_test node.now tables list.now a_values.now b_values.now) (tabulate n (λ k. k)) }
 {
-    let mut k = 0;
-    while k < n {
-        let table = table_among(tables, nodes, node[k] as usize);
-        if values_agree(
+    (0..n).all(|k| {
+        let table = tables[usize::from(node[k])];
+        values_agree(
             list,
             table.first,
             a_values,
             b_values,
             Instance::ROWS * k,
             table.count,
-        ) {
-            k += 1;
-        } else {
-            return false;
-        }
-    }
-    true
+        )
+    })
 }
 
 // Whether a list of partners is a matching from A to B.
@@ -121,30 +100,18 @@ pub fn is_matching(
     let counts = a.counts;
     let bounds = b.counts;
     let tables = table_list(&counts, graph.nodes);
-    if partners_exist(graph.nodes, tables, &bounds, list) {
-        let source = graph.source;
-        let target = graph.target;
-        if links_kept(
+    let source = graph.source;
+    let target = graph.target;
+    let node = schema.node;
+    partners_exist(graph.nodes, tables, &bounds, list)
+        && links_kept(
             graph.edges,
-            graph.nodes,
             &source,
             &target,
             tables,
             list,
             a_links,
             b_links,
-        ) {
-            let node = schema.node;
-            return values_kept(
-                schema.attributes,
-                graph.nodes,
-                &node,
-                tables,
-                list,
-                a_values,
-                b_values,
-            );
-        }
-    }
-    false
+        )
+        && values_kept(schema.attributes, &node, tables, list, a_values, b_values)
 }

@@ -3,8 +3,6 @@
 ghost use Rattle.std.specs.Prelude.{◌≡◌};
 ghost use Rattle.matching.specs.Compared.{each_row, link_kept, value_kept, Paired, Targets};
 
-use instance::decode::wide;
-
 // Whether for each of n rows the partner of its target is the target of its partner: a and b have the links along one edge.
 pub fn links_agree(
     list: &[u32],
@@ -18,18 +16,11 @@ pub fn links_agree(
     requires { Paired list.now source a.now b.now base n × Targets list.now target a.now base n }
     ensures { result ≡ each_row n (link_kept list.now source target a.now b.now base) }
 {
-    let mut r = 0;
-    while r < n {
-        let target_row = wide(a[base + r]);
-        let partner = wide(list[source + r]);
-        let partner_of_target = list[target + target_row];
-        let target_of_partner = b[base + partner];
-        if partner_of_target != target_of_partner {
-            return false;
-        }
-        r += 1;
-    }
-    true
+    (0..n).all(|r| {
+        let target_row = a[base + r] as usize;
+        let partner = list[source + r] as usize;
+        list[target + target_row] == b[base + partner]
+    })
 }
 
 // Whether each of n rows has the value of its partner: a and b have the values of one attribute.
@@ -37,15 +28,8 @@ pub fn values_agree(list: &[u32], first: usize, a: &[u32], b: &[u32], base: usiz
     requires { Paired list.now first a.now b.now base n }
     ensures { result ≡ each_row n (value_kept list.now first a.now b.now base) }
 {
-    let mut r = 0;
-    while r < n {
-        let partner = wide(list[first + r]);
-        let own_value = a[base + r];
-        let partner_value = b[base + partner];
-        if own_value != partner_value {
-            return false;
-        }
-        r += 1;
-    }
-    true
+    (0..n).all(|r| {
+        let partner = list[first + r] as usize;
+        a[base + r] == b[base + partner]
+    })
 }

@@ -6,7 +6,7 @@ ghost use Rattle.matching.specs.Turned.{mapping_between, counts_of, PushedCounts
 
 use instance::Instance;
 use instance::copy::copy_column;
-use instance::tables::{Table, table_among, table_list};
+use instance::tables::{Table, table_list};
 use mapping::Mapping;
 use schema::Schema;
 
@@ -21,12 +21,9 @@ fn copy_tables(
     requires { Moveable n from to list.now out.old }
     ensures { Moved n from to list.now out.new }
 {
-    let mut c = 0;
-    while c < n {
-        let here = table_among(from, n, c);
-        let there = table_among(to, n, c);
-        copy_column(list, here.first, here.count, &mut *out, there.first);
-        c += 1;
+    for c in 0..n {
+        let here = from[c];
+        copy_column(list, here.first, here.count, out, to[c].first);
     }
 }
 
@@ -43,20 +40,14 @@ fn place_tables(
 {
     let mut next = joined;
     let mut places = own;
-    let mut c = 0;
-    while c < n {
-        let d = node[c] as usize;
-        let table = table_among(own, n, c);
-        let here = next[d];
+    for (c, &image) in node[..n].iter().enumerate() {
+        let d = usize::from(image);
+        let table = own[c];
         places[c] = Table {
-            first: here.first,
-            count: table.count,
+            first: next[d].first,
+            ..table
         };
-        next[d] = Table {
-            first: here.first + table.count,
-            count: here.count,
-        };
-        c += 1;
+        next[d].first += table.count;
     }
     places
 }
@@ -78,10 +69,7 @@ fn places_of(s: Schema, t: Schema, f: Mapping, run: Instance, pushed: Instance) 
     let own = table_list(&counts, s.graph.nodes);
     let tables = table_list(&sums, t.graph.nodes);
     let joined = place_tables(s.graph.nodes, &node, own, tables);
-    Places {
-        own: own,
-        joined: joined,
-    }
+    Places { own, joined }
 }
 
 // A matching from Sigma of the run, turned into one from the run: each row of the run has the partner of its place in the joined list.
@@ -97,10 +85,8 @@ pub fn to_raw(
     requires { PushedCounts s t f run pushed × (512 ≤ length list.now) × (512 ≤ length out.old) }
     ensures { partners_of s run out.new ≡ to_raw (mapping_between s t f) (counts_of s run) (counts_of t pushed) (partners_of t pushed list.now) }
 {
-    let places = places_of(s, t, f, run, pushed);
-    let own = places.own;
-    let joined = places.joined;
-    copy_tables(s.graph.nodes, joined, list, own, &mut *out);
+    let Places { own, joined } = places_of(s, t, f, run, pushed);
+    copy_tables(s.graph.nodes, joined, list, own, out);
 }
 
 // A matching from the run, turned into one from Sigma of the run: each row has the partner of the row of the run that stands there.
@@ -116,8 +102,6 @@ pub fn to_pushed(
     requires { PushedCounts s t f run pushed × (512 ≤ length list.now) × (512 ≤ length out.old) }
     ensures { partners_of t pushed out.new ≡ to_pushed (mapping_between s t f) (counts_of s run) (counts_of t pushed) (partners_of s run list.now) }
 {
-    let places = places_of(s, t, f, run, pushed);
-    let own = places.own;
-    let joined = places.joined;
-    copy_tables(s.graph.nodes, own, list, joined, &mut *out);
+    let Places { own, joined } = places_of(s, t, f, run, pushed);
+    copy_tables(s.graph.nodes, own, list, joined, out);
 }

@@ -5,9 +5,8 @@ use mathlib.Core.List.{List}
 use Rattle.meaning.specs.Calls.{Outcome, refused, accepted, check_pushed, check_raw, pushed_to_raw, raw_to_pushed, Lent, in_tray}
 use Rattle.agreement.specs.Demand3.{meaning_answers, Provided, Clauses, AllRefuse}
 use Rattle.agreement.proofs.Demand3.{demand3, unprovided-refused}
-use Rattle.migration.specs.Answers.{verdict_of}
-use Rattle.steps.specs.Answers.{written_of, lent_of}
-use Rattle.migration.specs.Demand3.{Calls, MeetsContracts, answers, as_verdict, as_written, as_turned, meaning_calls}
+use Rattle.steps.specs.Answers.{outcome_of, lent_of}
+use Rattle.migration.specs.Demand3.{Calls, MeetsContracts, answers, answer_of, as_turned, meaning_calls}
 
 module _ {c : Calls} (C : MeetsContracts c) where
   same-answers : (s t f i j : List ℕ) → meaning_answers s t f i j ≡ answers c s t f i j
@@ -26,21 +25,17 @@ module _ {c : Calls} (C : MeetsContracts c) where
 
 -- ---- the meanings meet the contracts
 
-verdict-again : (o : Outcome (Unit {0})) → verdict_of (as_verdict o) ≡ o
-verdict-again (accepted _) = refl
-verdict-again (refused n place) = refl
+answer-again : {A : Type 0} (o : Outcome A) → outcome_of (λ a. a) (answer_of o) ≡ o
+answer-again (accepted a) = refl
+answer-again (refused n place) = refl
 
 turned-again : (l : Lent) → lent_of (as_turned l).0 (as_turned l).1 ≡ l
-turned-again l = λ n. record { answer = written-again l.answer n; tray = l.tray }
-  where
-    written-again : (o : Outcome ℕ) → written_of (as_written o) ≡ o
-    written-again (accepted n) = refl
-    written-again (refused n place) = refl
+turned-again l = λ n. record { answer = answer-again l.answer n; tray = l.tray }
 
 pub meanings_meet : MeetsContracts meaning_calls
 meanings_meet = record {
-  check-pushed = λ s t f i j k. verdict-again (check_pushed s t f i j k);
-  check-raw = λ s t f i j k. verdict-again (check_raw s t f i j k);
+  check-pushed = λ s t f i j k. answer-again (check_pushed s t f i j k);
+  check-raw = λ s t f i j k. answer-again (check_raw s t f i j k);
   pushed-to-raw = λ s t f i j k tray. turned-again (in_tray tray (pushed_to_raw s t f i j k));
   raw-to-pushed = λ s t f i j k tray. turned-again (in_tray tray (raw_to_pushed s t f i j k));
 }

@@ -1,11 +1,9 @@
 -- The steps of checkers and turnings, grouped as the code takes them: the inputs, then the sizes and the matching sheet, then what is made of them.
 use Prim.Native.Nat.{ℕ}
-use mathlib.Core.Path.{◌≡◌, refl, sym, ap, subst, ◌∙◌}
+use mathlib.Core.Path.{◌≡◌, refl, sym, ap, ◌∙◌}
 use mathlib.Core.Bool.{Bool, true, false}
 use mathlib.Core.List.{List}
-use native.Mathlib.Omega.{arith}
 use lib.Dec.{leb}
-use lib.ListN.{length}
 use Rattle.theory.specs.Matching.{partners}
 use Rattle.theory.specs.Sigma.{share}
 use Rattle.theory.specs.Transposition.{to_raw, to_pushed}
@@ -19,18 +17,10 @@ use Rattle.meaning.specs.Sigma.{sigma}
 use Rattle.meaning.specs.Calls as meaning
 use Rattle.meaning.specs.Calls.{Outcome, accepted, ◌>>=◌, at, ensure, Migration, migration, sides, judge_raw, judge_pushed, check_raw, check_pushed, pushed_to_raw, raw_to_pushed}
 use Rattle.meaning.specs.Category.{listed_category}
-use Rattle.matching.specs.Compared.{partners_of}
-use Rattle.steps.specs.declared.Refusal.{Refusal}
-use Rattle.steps.specs.declared.open.Opened.{Opened}
-use Rattle.migration.specs.declared.sides.Sides.{Sides}
-use Rattle.migration.specs.declared.matchings.Side.{Side}
 use Rattle.migration.specs.declared.matchings.Side.TheVariants as side
-use Rattle.steps.specs.Answers.{outcome_of}
-use Rattle.steps.specs.Opened.{opened_of, Opens}
-use Rattle.migration.specs.Sides.{Inputs, inputs, sized, sides_of, inputs_of, SidesSay, Rooms}
-use Rattle.migration.specs.Turnable.{Turnable, turnable, matched_side, turned_list, turnable_of, Matches}
-use Rattle.steps.proofs.Refusing.{no_refusal, yields, stops, bind_assoc}
-use Rattle.migration.proofs.Validity.{pushed-rows}
+use Rattle.migration.specs.Sides.{Inputs, inputs, sized, sides_of}
+use Rattle.migration.specs.Turnable.{Turnable, turnable, checked_side, turned_side, turned_list}
+use Rattle.steps.proofs.Refusing.{bind_assoc}
 
 -- the inputs, then the sizes of both migrated tables
 grouped : (s t f i j : List ℕ) → (inputs (migration s t f) i j >>= sized) ≡ sides s t f i j
@@ -93,57 +83,23 @@ module _ {B : Type 0} (s t f i j k : List ℕ) (judge : meaning.Sides → List �
       ∙ ap (λ (o : Outcome meaning.Sides). o >>= made) (grouped s t f i j)
 
 module _ (s t f i j k : List ℕ) where
-  pub raw_checked : (matched_side side.Raw (migration s t f) i j k >>= λ _. accepted tt) ≡ check_raw s t f i j k
+  pub raw_checked : checked_side side.Raw (migration s t f) i j k ≡ check_raw s t f i j k
   raw_checked = regrouped s t f i j k judge_raw (λ _. accepted tt) (λ _ _. accepted tt) (λ y l. refl)
 
-  pub pushed_checked : (matched_side side.Pushed (migration s t f) i j k >>= λ _. accepted tt) ≡ check_pushed s t f i j k
+  pub pushed_checked : checked_side side.Pushed (migration s t f) i j k ≡ check_pushed s t f i j k
   pushed_checked = regrouped s t f i j k judge_pushed (λ _. accepted tt) (λ _ _. accepted tt) (λ y l. refl)
 
   -- a turning looks at counts alone
-  pub raw_turned : (matched_side side.Raw (migration s t f) i j k >>= λ z. accepted (matching_sheet (turned_list side.Raw z))) ≡ raw_to_pushed s t f i j k
+  pub raw_turned : turned_side side.Raw (migration s t f) i j k ≡ raw_to_pushed s t f i j k
   unfolding share partners
   raw_turned =
       regrouped s t f i j k judge_raw (λ z. accepted (matching_sheet (turned_list side.Raw z)))
       (λ x l. accepted (matching_sheet (to_pushed (mapping_of x.m.S x.m.T x.m.F) (instance_of x.run) (instance_of x.pushed) l)))
       (λ y l. refl)
 
-  pub pushed_turned : (matched_side side.Pushed (migration s t f) i j k >>= λ z. accepted (matching_sheet (turned_list side.Pushed z))) ≡ pushed_to_raw s t f i j k
+  pub pushed_turned : turned_side side.Pushed (migration s t f) i j k ≡ pushed_to_raw s t f i j k
   unfolding share partners
   pushed_turned =
       regrouped s t f i j k judge_pushed (λ z. accepted (matching_sheet (turned_list side.Pushed z)))
       (λ x l. accepted (matching_sheet (to_raw (mapping_of x.m.S x.m.T x.m.F) (instance_of x.run) (instance_of x.pushed) l)))
       (λ y l. refl)
-
--- ---- the inputs in working arrays, then a side
-
--- arrays of the same lengths have room for as much
-pub rooms-kept : {o p : Opened} {a b c d a' b' c' d' e f : List ℕ} → p ≡ o → Rooms o a b c d e f → length a' ≡ length a → length b' ≡ length b → length c' ≡ length c → length d' ≡ length d → Rooms p a' b' c' d' e f
-rooms-kept {o} {a' = a'} {b'} {c'} {d'} {e} {f} same R la lb lc ld = subst (λ (p : Opened). Rooms p a' b' c' d' e f) (sym same) (record {
-  run = record { for_links = omega (arith, R.run.for_links, la); for_values = omega (arith, R.run.for_values, lb) };
-  book = record { for_links = omega (arith, R.book.for_links, lc); for_values = omega (arith, R.book.for_values, ld) };
-  pushed = R.pushed;
-  pulled = R.pulled;
-})
-
-module _ (x : Sides) (links values links' values' list : List ℕ) {o : Opened} {X : Outcome Inputs} (S : SidesSay o x links values links' values' X) (k : Inputs → Outcome (List ℕ)) where
-  abbrev y : Inputs
-  y = inputs_of x links values links' values'
-
-  abbrev follows : Inputs → Outcome Turnable
-  follows y = do
-    l ← k y
-    accepted (turnable y l)
-
-  pub side-judged : (r : Refusal) → x.refusal.number ≡ 0 → outcome_of r (partners_of x.opened.source x.run list) ≡ k y
-      → Matches (record { refusal = r; opened = x.opened; run = x.run; book = x.book }) list (X >>= follows)
-  side-judged r z e = record {
-    says = yields r (partners_of x.opened.source x.run list) e (turnable y) ∙ ap (λ (o : Outcome Inputs). o >>= follows) (sym (no_refusal x.refusal y z) ∙ S.says);
-    ready = λ _. let M = S.migratable z in record { ready = M.ready; limits = M.run_limits; rows = pushed-rows M };
-  }
-
-  pub side-stopped : (x.refusal.number ≡ 0 → ⊥) → Matches x list (X >>= follows)
-  side-stopped some = record { says = stops x.refusal y S.says (turnable_of x list) follows some; ready = λ z. absurd (some z) }
-
--- the steps, of the sheets that were opened
-pub side-told : {o : Opened} {M : Outcome Migration} → Opens o M → (side : Side) (i j k : List ℕ) {x : Sides} {list : List ℕ} → Matches x list (matched_side side (opened_of o) i j k) → Matches x list (matched_side side M i j k)
-side-told O side i j k u = record { says = u.says ∙ ap (λ (M : Outcome Migration). matched_side side M i j k) O.says; ready = u.ready }

@@ -1,138 +1,110 @@
 -- What the steps of Pi say together: judged sheets, tests 13 and 14, the size of the result, and its tables.
 use Prim.Native.Nat.{ℕ, ◌≤◌}
 use mathlib.Core.Path.{◌≡◌, refl, sym, ap, subst, ◌∙◌}
-use mathlib.Core.Bool.{Bool, true, false, cond}
+use mathlib.Core.Bool.{Bool, true, false}
 use mathlib.Core.List.{List}
-use native.Mathlib.Omega.{arith}
+use Rattle.std.specs.Prelude.{Ok, Err}
+use lib.Dec.{leb}
+use lib.ListN.{length}
 use Rattle.meaning.specs.Lists.{sum_of}
 use Rattle.meaning.specs.Formats as formats
 use Rattle.meaning.specs.Pi.{is_bijective, has_few_components}
 use Rattle.meaning.specs.Judge.{judge_instance}
 use Rattle.meaning.specs.Calls as meaning
-use Rattle.meaning.specs.Calls.{Outcome, at, ensure, Migration, migration, pi_tables, ◌>>=◌}
+use Rattle.meaning.specs.Calls.{Outcome, refused, accepted, at, ensure, Migration, migration, pi_tables, ◌>>=◌}
 use Rattle.meaning.specs.Category.{listed_category}
 use Rattle.schema.specs.Decoded.{schema_of, category_of}
 use Rattle.schema.specs.Judged.{Sound}
-use Rattle.mapping.specs.Decoded.{mapping_of}
 use Rattle.instance.specs.declared.Instance.{Instance}
-use Rattle.instance.specs.Decoded.{RoomFor}
+use Rattle.instance.specs.Decoded.{tables_of, RoomFor}
 use Rattle.pi.specs.declared.components.Components.{Components}
 use Rattle.pi.specs.declared.families.Listing.{Listing}
 use Rattle.pi.specs.Components.{AllComponents}
-use Rattle.pi.specs.Tables.{PiReady, pi_of, Made, ListsPi}
+use Rattle.pi.specs.Families.{AllFamilies}
+use Rattle.pi.specs.Tables.{pi_of, Made, ListsPi}
+use Rattle.pi.proofs.Tables.{lists-pi}
 use Rattle.steps.specs.declared.Refusal.{Refusal}
 use Rattle.steps.specs.declared.open.Opened.{Opened}
 use Rattle.migration.specs.declared.joins.Joined.{Joined}
-use Rattle.steps.specs.Answers.{outcome_of}
-use Rattle.steps.specs.Opened.{opened_of, Opens}
-use Rattle.steps.specs.Runs.{RunInput, run_input, run_input_of, RunSays}
-use Rattle.migration.specs.Joins.{joined_run, tested_joined, joined_of, ListedRun, Joins}
-use Rattle.steps.specs.Migrated.{Migrates}
-use Rattle.steps.proofs.Refusing.{refusal, some-refusal, no_refusal, stops, yields, tested, bind_assoc}
-use Rattle.steps.proofs.Sizes.{size, sized}
-use Rattle.steps.proofs.Opening.{passed, mapped}
-
--- ---- two tests in turn
-two-tested : (a b : Bool) → outcome_of (refusal (cond a (cond b 0 14) 13) 0) tt ≡ (ensure a 13 >>= λ _. ensure b 14)
-two-tested true b = tested b 14 (λ e. omega arith)
-two-tested false b = some-refusal (refusal 13 0) tt (λ e. omega arith)
-
-two-passed : (a b : Bool) → ◌≡◌ {A = ℕ} (cond a (cond b 0 14) 13) 0 → (a ≡ true) × (b ≡ true)
-two-passed true true e = (refl, refl)
-two-passed true false e = absurd (omega arith)
-two-passed false b e = absurd (omega arith)
+use Rattle.steps.specs.Opened.{migration_of, Ready, SoundTables}
+use Rattle.steps.specs.Runs.{RunInput, run_input, run_input_of}
+use Rattle.steps.specs.Tests.{joinable}
+use Rattle.migration.specs.Joins.{joined_run, tested_joined, ListedRun, Joins}
+use Rattle.steps.specs.Migrated.{Writable}
+use Rattle.agreement.proofs.Tests.{refused-not-accepted}
+use Rattle.steps.proofs.Refusing.{bind_assoc}
+use Rattle.steps.proofs.Opening.{mapped}
 
 abbrev rest : RunInput → Outcome meaning.Migrated
 rest y = ensure (is_bijective y.m.T y.m.F) 13 >>= λ _. ensure (has_few_components (listed_category y.m.S) (listed_category y.m.T) y.m.F) 14 >>= λ _. joined_run y
 
-module _ (o : Opened) (run : Instance) (links values rows : List ℕ) where
+-- a test was passed
+test-passed : (b : Bool) (n : ℕ) → accepted tt ≡ ensure b n → b ≡ true
+test-passed true n e = refl
+test-passed false n e = absurd (refused-not-accepted (sym e))
+
+tests-passed : (a b : Bool) → accepted tt ≡ (ensure a 13 >>= λ _. ensure b 14) → (a ≡ true) × (b ≡ true)
+tests-passed true b e = (refl, test-passed b 14 e)
+tests-passed false b e = absurd (refused-not-accepted (sym e))
+
+module _ (o : Opened) (run : Instance) (links values : List ℕ) where
   abbrev input : RunInput
   input = run_input_of o run links values
 
   abbrev tables : formats.Instance
   tables = pi_of o.source o.target o.mapping run links values
 
-  abbrev paired : Bool
-  paired = is_bijective (schema_of o.target) (mapping_of o.source o.mapping)
-
-  abbrev narrow : Bool
-  narrow = has_few_components (category_of o.source) (category_of o.target) (mapping_of o.source o.mapping)
+  abbrev made : formats.Instance → meaning.Migrated
+  made J = record { schema = schema_of o.target; tables = J }
 
   -- the families make Pi's tables, or there are too many
-  module _ {k : Components} {l : Listing} {n : ℕ} (L : ListsPi o.source o.target o.target_paths o.mapping run k links values l rows) (d : n ≡ cond l.fits 0 15) where
-    abbrev listing : Joined
-    listing = record { refusal = refusal n 0; run = run; components = k; counts = l.counts }
+  module _ {k : Components} {l : Listing} {rows : List ℕ} (R : Ready o) (I : SoundTables o.source run links values) (room : RoomFor o.source links values) (e : accepted tt ≡ joinable (migration_of o))
+      (K : AllComponents o.source o.target o.mapping o.target.graph.nodes k) (L : AllFamilies o.source o.target o.mapping run links rows l) (long : length rows ≡ 32768) where
+    both : (is_bijective input.m.T input.m.F ≡ true) × (has_few_components (category_of o.source) (category_of o.target) input.m.F ≡ true)
+    both = tests-passed (is_bijective input.m.T input.m.F) (has_few_components (category_of o.source) (category_of o.target) input.m.F) e
 
-    families-joined : Joins o listing rows values (joined_run input)
-    families-joined = record {
-      says = ap (λ (n : ℕ). outcome_of (refusal n 0) (joined_of o listing rows values)) d ∙ go l.fits refl ∙ ap (λ (b : Bool). outcome_of (refusal (cond b 0 15) 0) (made tables)) L.fits
-          ∙ yields (size tables) tables (sized tables) made;
-      listed = λ z. L.listed (passed l.fits 15 (λ e. omega arith) (sym d ∙ z));
-    }
+    lists : ListsPi o.source o.target o.target_paths o.mapping run k links values l rows
+    lists = lists-pi (record {
+      mapped = mapped R;
+      linked = record { limits = I.limits; room = room.for_links; links_in = I.accepted.links_in };
+      values_long = room.for_values;
+      bijective = both.0;
+      gathered = record { all = K; few = both.1 };
+    }) L long
+
+    size-told : (ensure l.fits 15 >>= λ _. accepted (made tables)) ≡ joined_run input
+    size-told = rw lists.fits (go (leb (sum_of tables.counts) 512))
       where
-        made : formats.Instance → meaning.Migrated
-        made J = record { schema = schema_of o.target; tables = J }
+        go : (b : Bool) → (ensure b 15 >>= λ _. accepted (made tables)) ≡ ((ensure b 15 >>= λ _. accepted tables) >>= λ J. accepted (made J))
+        go true = refl
+        go false = refl
 
-        go : (b : Bool) → l.fits ≡ b → outcome_of (refusal (cond b 0 15) 0) (joined_of o listing rows values) ≡ outcome_of (refusal (cond b 0 15) 0) (made tables)
-        go true e = ap (λ (J : formats.Instance). outcome_of (refusal 0 0) (made J)) (L.says e)
-        go false e = refl
+    -- of an accepted run, the tests and then the size are what is left
+    told : (i : List ℕ) → accepted (tables_of o.source run links values) ≡ at 4 (judge_instance (schema_of o.source) i) → joined_run input ≡ tested_joined (run_input (accepted (migration_of o)) i)
+    told i f =
+        ap (λ (o : Outcome (Unit {0})). o >>= λ _. joined_run input) e
+        ∙ bind_assoc (ensure (is_bijective input.m.T input.m.F) 13) _ (λ _. joined_run input) _ (λ _. refl)
+        ∙ ap (λ (I : Outcome formats.Instance). (I >>= λ I. accepted (record { m = migration_of o; run = I })) >>= rest) f
 
-  module _ {r : Refusal} {X : Outcome RunInput} (I : RunSays o r run links values X) where
-    -- a sheet was refused
-    pub sheets-stopped : {x : Joined} → x.refusal ≡ r → (r.number ≡ 0 → ⊥) → Joins o x rows values (tested_joined X)
-    sheets-stopped {x} e some = record {
-      says = ap (λ (r : Refusal). outcome_of r (joined_of o x rows values)) e ∙ stops r input I.says (joined_of o x rows values) rest some;
-      listed = λ z. absurd (some (ap (λ (r : Refusal). r.number) (sym e) ∙ z));
-    }
-
-    module _ (none : r.number ≡ 0) where
-      told : rest input ≡ tested_joined X
-      told = ap (λ (o : Outcome RunInput). o >>= rest) (sym (no_refusal r input none) ∙ I.says)
-
-      module _ {n : ℕ} (d : n ≡ cond paired (cond narrow 0 14) 13) where
-        -- a test was not passed
-        pub tests-stopped : {x : Joined} → x.refusal ≡ refusal n 0 → (n ≡ 0 → ⊥) → Joins o x rows values (tested_joined X)
-        tests-stopped {x} e some = record {
-          says = ap (λ (r : Refusal). outcome_of r (joined_of o x rows values)) e
-              ∙ stops (refusal n 0) tt (ap (λ (n : ℕ). outcome_of (refusal n 0) tt) d ∙ two-tested paired narrow) (joined_of o x rows values) (λ _. joined_run input) some
-              ∙ bind_assoc (ensure paired 13) (λ _. ensure narrow 14) (λ _. joined_run input) _ (λ _. refl) ∙ told;
-          listed = λ z. absurd (some (ap (λ (r : Refusal). r.number) (sym e) ∙ z));
-        }
-
-        module _ (z : n ≡ 0) where
-          both : (paired ≡ true) × (narrow ≡ true)
-          both = two-passed paired narrow (sym d ∙ z)
-
-          pub joinable : {k : Components} → AllComponents o.source o.target o.mapping o.target.graph.nodes k → RoomFor o.source links values → PiReady o.source o.target o.target_paths o.mapping run k links values
-          joinable K R = record {
-            mapped = mapped (I.ready none);
-            linked = record { limits = I.limits; room = R.for_links; links_in = (I.accepted none).links_in };
-            values_long = R.for_values;
-            bijective = both.0;
-            gathered = record { all = K; few = both.1 };
+    module _ (i : List ℕ) (f : accepted (tables_of o.source run links values) ≡ at 4 (judge_instance (schema_of o.source) i)) where
+      pub families-joined : accepted tt ≡ ensure l.fits 15 → Joins o (Ok (record { run = run; components = k; counts = l.counts })) rows values (tested_joined (run_input (accepted (migration_of o)) i))
+      families-joined d =
+          let fit = test-passed l.fits 15 d in
+          record {
+            says = ap (λ (J : formats.Instance). accepted (made J)) (lists.says fit) ∙ ap (λ (o : Outcome (Unit {0})). o >>= λ _. accepted (made tables)) d ∙ size-told ∙ told i f;
+            listed = lists.listed fit;
           }
 
-          -- the families are listed, or there are too many
-          pub tests-joined : {k : Components} {l : Listing} {m : ℕ} → ListsPi o.source o.target o.target_paths o.mapping run k links values l rows → m ≡ cond l.fits 0 15
-              → Joins o (record { refusal = refusal m 0; run = run; components = k; counts = l.counts }) rows values (tested_joined X)
-          tests-joined L c =
-              let u = families-joined L c in
-              record {
-                says = u.says ∙ ap (λ (b : Bool). ensure true 13 >>= λ _. ensure b 14 >>= λ _. joined_run input) (sym both.1) ∙ ap (λ (b : Bool). ensure b 13 >>= λ _. ensure narrow 14 >>= λ _. joined_run input) (sym both.0) ∙ told;
-                listed = u.listed;
-              }
+      pub families-crowded : {r : Refusal} → refused r.number r.place ≡ ensure l.fits 15 → Joins o (Err r) rows values (tested_joined (run_input (accepted (migration_of o)) i))
+      families-crowded d = record { says = ap (λ (o : Outcome (Unit {0})). o >>= λ _. accepted (made tables)) d ∙ size-told ∙ told i f; listed = tt }
 
 -- the tables that families make, in working arrays
 pub families-made : (o : Opened) (x : Joined) {rows values found read : List ℕ} {r : Instance} → Sound o.target → ListedRun o x rows values → RoomFor o.target found read
-    → Made o.source o.target o.target_paths o.mapping x.run x.components x.counts rows values r found read
-    → Migrates (record { refusal = x.refusal; schema = o.target; tables = r }) found read (outcome_of x.refusal (joined_of o x rows values))
-families-made o x S L R m = record {
-  says = ap (λ (J : formats.Instance). outcome_of x.refusal (record { schema = schema_of o.target; tables = J })) m.says;
-  writable = record { sound = S; limits = λ _. record { rows = subst (λ (J : formats.Instance). sum_of J.counts ≤ 512) (sym m.says) L.few; long = m.long }; room = R };
-}
+    → Made o.source o.target o.target_paths o.mapping x.run x.components x.counts rows values r found read → Writable (record { schema = o.target; tables = r }) found read
+families-made o x S L R m = record { sound = S; limits = record { rows = subst (λ (J : formats.Instance). sum_of J.counts ≤ 512) (sym m.says) L.few; long = m.long }; room = R }
 
 -- the steps, of the sheets that were opened
-pub pi-told : {o : Opened} (s t f i : List ℕ) → Opens o (migration s t f) → tested_joined (run_input (opened_of o) i) ≡ pi_tables s t f i
-pi-told s t f i O =
-    ap (λ (M : Outcome Migration). tested_joined (run_input M i)) O.says
+pub pi-told : {M : Outcome Migration} (s t f i : List ℕ) → M ≡ migration s t f → tested_joined (run_input M i) ≡ pi_tables s t f i
+pi-told s t f i e =
+    ap (λ (M : Outcome Migration). tested_joined (run_input M i)) e
     ∙ bind_assoc (migration s t f) _ rest _ (λ m. bind_assoc (at 4 (judge_instance m.S i)) _ rest _ (λ I. refl))

@@ -1,11 +1,7 @@
 -- Laws of opened sheets and migrated tables, of trays, demand 3, and what an export's number says.
-pub mod Checking
 pub mod Trays
-pub mod Migrating
 pub mod Pushing
 pub mod Joining
-pub mod Opening
-pub mod Partners
 pub mod Validity
 pub mod Judging
 pub mod Grouping

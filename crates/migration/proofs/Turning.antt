@@ -20,54 +20,54 @@ use Rattle.lifts.proofs.JoinedRows.{joined_length}
 use Rattle.sigma.specs.Pushed.{Counted}
 use Rattle.matching.specs.Compared.{partners_of}
 use Rattle.matching.specs.Turned.{mapping_between, counts_of, PushedCounts}
-use Rattle.migration.specs.declared.sides.Sides.{Sides}
+use Rattle.steps.specs.declared.open.Opened.{Opened}
 use Rattle.migration.specs.declared.matchings.Side.TheVariants as side
 use Rattle.migration.specs.Turnable.{turnable_of, pushed_of, turned_list, ReadyToTurn}
 use Rattle.steps.proofs.Validity.{ready-valid}
 
-module _ {x : Sides} (R : ReadyToTurn x) {p : Instance} (C : Counted x.opened.source x.opened.target x.opened.mapping x.run p) where
+module _ {o : Opened} {run : Instance} (R : ReadyToTurn o run) {p : Instance} (C : Counted o.source o.target o.mapping run p) where
   abbrev counts : List ℕ
-  counts = front_of x.opened.target.graph.nodes p.counts
+  counts = front_of o.target.graph.nodes p.counts
 
-  counts_are : counts ≡ (pushed_of (turnable_of x [])).counts
+  counts_are : counts ≡ (pushed_of (turnable_of o run [])).counts
   counts_are =
-      let s = x.opened.source in
-      tabulate-upto x.opened.target.graph.nodes (λ d l.
-      C.counts.each d l ∙ sym (joined_length s x.opened.mapping (tables_of s x.run [] []) x.run.counts (λ c l. tabulate-get_or s.graph.nodes (λ k. get_or x.run.counts k 0) 0 c l) d))
+      let s = o.source in
+      tabulate-upto o.target.graph.nodes (λ d l.
+      C.counts.each d l ∙ sym (joined_length s o.mapping (tables_of s run [] []) run.counts (λ c l. tabulate-get_or s.graph.nodes (λ k. get_or run.counts k 0) 0 c l) d))
 
-  rows_are : sum_of counts ≡ sum_of (front_of x.opened.source.graph.nodes x.run.counts)
+  rows_are : sum_of counts ≡ sum_of (front_of o.source.graph.nodes run.counts)
   rows_are = ap sum_of counts_are ∙ R.rows
 
-  pub may-turn : PushedCounts x.opened.source x.opened.target x.opened.mapping x.run p
+  pub may-turn : PushedCounts o.source o.target o.mapping run p
   may-turn = record {
     s_sound = R.ready.schemas.source;
     t_sound = R.ready.schemas.target;
-    nodes = record { each = λ c l. rw (node_at x.opened.source x.opened.mapping c l) at ((ready-valid R.ready).is.node_in c l) };
+    nodes = record { each = λ c l. rw (node_at o.source o.mapping c l) at ((ready-valid R.ready).is.node_in c l) };
     run_limits = R.limits;
     pushed_limits = record { rows = subst (λ (n : ℕ). n ≤ 512) (sym rows_are) R.limits.rows; long = C.counts.long };
     counts = counts_are;
   }
 
   -- a list of either side has as many partners
-  same-partners : (list : List ℕ) → partners_of x.opened.target p list ≡ partners_of x.opened.source x.run list
+  same-partners : (list : List ℕ) → partners_of o.target p list ≡ partners_of o.source run list
   same-partners list = ap (λ (n : ℕ). front_of n list) rows_are
 
   abbrev F : theory_mapping.Mapping
-  F = mapping_between x.opened.source x.opened.target x.opened.mapping
+  F = mapping_between o.source o.target o.mapping
 
   abbrev bare : List ℕ → formats.Instance
   bare counts = record { counts = counts; links = []; values = [] }
 
-  pub to-raw-told : (list out : List ℕ) → partners_of x.opened.source x.run out ≡ to_raw F (counts_of x.opened.source x.run) (counts_of x.opened.target p) (partners_of x.opened.target p list)
-      → partners_of x.opened.source x.run out ≡ turned_list side.Pushed (turnable_of x list)
+  pub to-raw-told : (list out : List ℕ) → partners_of o.source run out ≡ to_raw F (counts_of o.source run) (counts_of o.target p) (partners_of o.target p list)
+      → partners_of o.source run out ≡ turned_list side.Pushed (turnable_of o run list)
   unfolding share partners
   to-raw-told list out e =
-      let I = instance_of (bare (front_of x.opened.source.graph.nodes x.run.counts)) in
-      e ∙ ap (to_raw F I (instance_of (bare counts))) (same-partners list) ∙ ap (λ (l : List ℕ). to_raw F I (instance_of (bare l)) (partners_of x.opened.source x.run list)) counts_are
+      let I = instance_of (bare (front_of o.source.graph.nodes run.counts)) in
+      e ∙ ap (to_raw F I (instance_of (bare counts))) (same-partners list) ∙ ap (λ (l : List ℕ). to_raw F I (instance_of (bare l)) (partners_of o.source run list)) counts_are
 
-  pub to-pushed-told : (list out : List ℕ) → partners_of x.opened.target p out ≡ to_pushed F (counts_of x.opened.source x.run) (counts_of x.opened.target p) (partners_of x.opened.source x.run list)
-      → partners_of x.opened.source x.run out ≡ turned_list side.Raw (turnable_of x list)
+  pub to-pushed-told : (list out : List ℕ) → partners_of o.target p out ≡ to_pushed F (counts_of o.source run) (counts_of o.target p) (partners_of o.source run list)
+      → partners_of o.source run out ≡ turned_list side.Raw (turnable_of o run list)
   unfolding share partners
   to-pushed-told list out e =
-      let I = instance_of (bare (front_of x.opened.source.graph.nodes x.run.counts)) in
-      sym (same-partners out) ∙ e ∙ ap (λ (l : List ℕ). to_pushed F I (instance_of (bare l)) (partners_of x.opened.source x.run list)) counts_are
+      let I = instance_of (bare (front_of o.source.graph.nodes run.counts)) in
+      sym (same-partners out) ∙ e ∙ ap (λ (l : List ℕ). to_pushed F I (instance_of (bare l)) (partners_of o.source run list)) counts_are

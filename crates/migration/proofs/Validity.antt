@@ -19,6 +19,7 @@ use Rattle.agreement.proofs.Sigma.{sigma-total, sigma-valid}
 use Rattle.schema.specs.Decoded.{schema_of}
 use Rattle.instance.specs.Decoded.{tables_of}
 use Rattle.mapping.specs.Decoded.{mapping_of}
+use Rattle.steps.specs.declared.open.Opened.{Opened}
 use Rattle.migration.specs.declared.sides.Sides.{Sides}
 use Rattle.migration.specs.Sides.{Migratable}
 use Rattle.instance.proofs.Validity.{accepted-valid}
@@ -26,18 +27,18 @@ use Rattle.steps.proofs.Validity.{ready-valid}
 
 -- ---- the run and its Sigma
 
-module _ {x : Sides} {links values links' values' : List ℕ} (M : Migratable x links values links' values') where
+module _ {o : Opened} {x : Sides} {links values links' values' : List ℕ} (M : Migratable o x links values links' values') where
   abbrev S : meaning.Schema
-  S = schema_of x.opened.source
+  S = schema_of o.source
 
   abbrev T : meaning.Schema
-  T = schema_of x.opened.target
+  T = schema_of o.target
 
   abbrev F : formats.Mapping
-  F = mapping_of x.opened.source x.opened.mapping
+  F = mapping_of o.source o.mapping
 
   abbrev run : formats.Instance
-  run = tables_of x.opened.source x.run links values
+  run = tables_of o.source x.run links values
 
   mapping-valid : ValidMapping (listed_category S) (listed_category T) F
   mapping-valid = ready-valid M.ready
@@ -46,7 +47,7 @@ module _ {x : Sides} {links values links' values' : List ℕ} (M : Migratable x 
   mapping-even = (even-iff mapping-valid).0 M.is-even
 
   run-valid : ValidInstance S run
-  run-valid = accepted-valid M.ready.schemas.source x.run links values M.run_limits M.run
+  run-valid = accepted-valid M.ready.schemas.source x.run links values M.run.limits M.run.accepted
 
   pub pushed-valid : ValidInstance T (sigma (listed_category S) (listed_category T) F run)
   pushed-valid = sigma-valid mapping-valid mapping-even run-valid

@@ -1,31 +1,34 @@
--- What an answer says in the terms of document 01: the number and the values of each case of an enum.
-use Rattle.std.specs.Prelude.{ℕ, ◌+◌, ◌*◌, ◌≡◌, cond, List, eqb}
+-- What an answer says in the terms of document 01.
+use Rattle.std.specs.Prelude.{ℕ, ◌+◌, ◌*◌, ◌≡◌, cond, List, eqb, Option, None, Some, Result, Ok, Err}
 use Rattle.meaning.specs.Schema.{Schema}
-use Rattle.meaning.specs.Judge.{judge_instance}
+use Rattle.meaning.specs.Category.{listed_category}
+use Rattle.meaning.specs.Judge.{judge_mapping, judge_instance}
 use Rattle.meaning.specs.Calls.{Outcome, refused, accepted, ◌>>=◌, at, check_pushed, check_raw, pushed_to_raw, raw_to_pushed, Lent, in_tray}
-use Rattle.migration.specs.declared.Verdict.{Verdict}
-use Rattle.migration.specs.declared.Verdict.TheVariants as verdict
-use Rattle.migration.specs.declared.Explained.{Explained}
-use Rattle.migration.specs.declared.Explained.TheVariants as explain
-use Rattle.steps.specs.declared.Written.{Written}
-use Rattle.steps.specs.Answers.{lent_of}
+use Rattle.steps.specs.declared.Refusal.{Refusal}
+use Rattle.steps.specs.Answers.{Verdict, verdict_of, Written, lent_of}
 
-abbrev pub verdict_of : Verdict → Outcome (Unit {0})
-verdict_of verdict.Accepted = accepted tt
-verdict_of (verdict.Refused r) = refused r.number r.place
+-- the answer to which steps lead from one path to another: no bytes are no chain
+abbrev pub Explained : Type 0
+Explained = Result (Option ℕ) Refusal
 
 abbrev pub explained_of : Explained → Outcome ℕ
-explained_of (explain.Chain n) = accepted n
-explained_of explain.Unequal = accepted 0
-explained_of (explain.Refused r) = refused r.number r.place
+explained_of (Ok (Some n)) = accepted n
+explained_of (Ok None) = accepted 0
+explained_of (Err r) = refused r.number r.place
 
--- and back: no bytes are no chain
+-- and back
 abbrev pub explanation_of : Outcome ℕ → Explained
-explanation_of (accepted n) = cond (eqb n 0) explain.Unequal (explain.Chain n)
-explanation_of (refused n place) = explain.Refused (record { number = n; place = place })
+explanation_of (accepted n) = Ok (cond (eqb n 0) None (Some n))
+explanation_of (refused n place) = Err (record { number = n; place = place })
 
 abbrev pub explained : Lent → Explained × List ℕ
 explained l = (explanation_of l.answer, l.tray)
+
+-- a mapping sheet at place 3
+abbrev pub checked_images : Schema → Schema → List ℕ → Outcome (Unit {0})
+checked_images S T f = do
+  _ ← at 3 (judge_mapping (listed_category S) (listed_category T) f)
+  accepted tt
 
 -- an instance sheet at place 2
 abbrev pub checked_sheet : Schema → List ℕ → Outcome (Unit {0})

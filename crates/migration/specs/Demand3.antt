@@ -1,14 +1,11 @@
 -- Demand 3 of the public calls: any answers that meet the contracts of the two checkers and the two turnings, in the terms of `agreement`, whose
 -- provisos and clauses are asked of them.
-use Rattle.std.specs.Prelude.{ℕ, List}
+use Rattle.std.specs.Prelude.{ℕ, List, Result, Ok, Err}
 use Rattle.meaning.specs.Calls.{Outcome, refused, accepted, check_pushed, check_raw, pushed_to_raw, raw_to_pushed, Lent, in_tray}
 use Rattle.agreement.specs.Demand3.{Turning, Answers}
-use Rattle.migration.specs.declared.Verdict.{Verdict}
-use Rattle.migration.specs.declared.Verdict.TheVariants as verdict
-use Rattle.steps.specs.declared.Written.{Written}
-use Rattle.steps.specs.declared.Written.TheVariants as written
-use Rattle.migration.specs.Answers.{verdict_of, PushedChecked, RawChecked, TurnedToRaw, TurnedToPushed}
-use Rattle.steps.specs.Answers.{lent_of}
+use Rattle.migration.specs.Answers.{PushedChecked, RawChecked, TurnedToRaw, TurnedToPushed}
+use Rattle.steps.specs.declared.Refusal.{Refusal}
+use Rattle.steps.specs.Answers.{Verdict, verdict_of, Written, lent_of}
 
 -- of the sheets s, t, f, run, book and list
 abbrev pub Checker : Type 0
@@ -47,21 +44,18 @@ answers c s t f i j = record {
 
 -- ---- the meanings as answers, of lists that are no bytes too, which nobody can lend
 
-abbrev pub as_verdict : Outcome (Unit {0}) → Verdict
-as_verdict (accepted _) = verdict.Accepted
-as_verdict (refused n place) = verdict.Refused (record { number = n; place = place })
-
-abbrev pub as_written : Outcome ℕ → Written
-as_written (accepted n) = written.Bytes n
-as_written (refused n place) = written.Refused (record { number = n; place = place })
+module _ {A : Type 0} where
+  abbrev pub answer_of : Outcome A → Result A Refusal
+  answer_of (accepted a) = Ok a
+  answer_of (refused n place) = Err (record { number = n; place = place })
 
 abbrev pub as_turned : Lent → Written × List ℕ
-as_turned l = (as_written l.answer, l.tray)
+as_turned l = (answer_of l.answer, l.tray)
 
 abbrev pub meaning_calls : Calls
 meaning_calls = record {
-  check-pushed = λ s t f i j k. as_verdict (check_pushed s t f i j k);
-  check-raw = λ s t f i j k. as_verdict (check_raw s t f i j k);
+  check-pushed = λ s t f i j k. answer_of (check_pushed s t f i j k);
+  check-raw = λ s t f i j k. answer_of (check_raw s t f i j k);
   pushed-to-raw = λ s t f i j k tray. as_turned (in_tray tray (pushed_to_raw s t f i j k));
   raw-to-pushed = λ s t f i j k tray. as_turned (in_tray tray (raw_to_pushed s t f i j k));
 }

@@ -1,11 +1,12 @@
 -- Pi of a run: its families as they are listed, and the tables that they make.
-use Rattle.std.specs.Prelude.{ℕ, ◌≡◌, List}
+use Rattle.std.specs.Prelude.{ℕ, ◌≡◌, List, Result, IfOk}
 use Rattle.meaning.specs.Pi.{is_bijective, has_few_components, pi}
 use Rattle.meaning.specs.Calls as meaning
 use Rattle.meaning.specs.Calls.{Outcome, accepted, ◌>>=◌, ensure, ensure_fits}
 use Rattle.meaning.specs.Category.{listed_category}
 use Rattle.schema.specs.Decoded.{schema_of}
 use Rattle.pi.specs.Tables.{tables_from, Listed}
+use Rattle.steps.specs.declared.Refusal.{Refusal}
 use Rattle.steps.specs.declared.open.Opened.{Opened}
 use Rattle.migration.specs.declared.joins.Joined.{Joined}
 use Rattle.steps.specs.Answers.{outcome_of}
@@ -35,6 +36,7 @@ joined_of o x rows values = record { schema = schema_of o.target; tables = table
 abbrev pub ListedRun : Opened → Joined → List ℕ → List ℕ → Type 0
 ListedRun o x = Listed o.source o.target o.target_paths o.mapping x.run x.components x.counts
 
-pub record Joins (o : Opened) (x : Joined) (rows values : List ℕ) (X : Outcome meaning.Migrated) : Type 0 where
-  pub says : outcome_of x.refusal (joined_of o x rows values) ≡ X
-  pub listed : (x.refusal.number ≡ 0 → ListedRun o x rows values)
+-- listed families that make X's tables, or X's refusal
+pub record Joins (o : Opened) (r : Result Joined Refusal) (rows values : List ℕ) (X : Outcome meaning.Migrated) : Type 0 where
+  pub says : outcome_of (λ x. joined_of o x rows values) r ≡ X
+  pub listed : IfOk r (λ x. ListedRun o x rows values)

@@ -1,19 +1,11 @@
--- A judged matching in a working array, and the partners of each side where its tests are passed.
-use Rattle.std.specs.Prelude.{ℕ, cond, List, eqb}
-use Rattle.meaning.specs.Sheet.{Judged, faulty, sound}
+-- The partners of each side where its tests are passed.
+use Rattle.std.specs.Prelude.{ℕ, List}
 use Rattle.meaning.specs.Calls.{Outcome, ◌>>=◌, judge_pushed, judge_raw}
-use Rattle.schema.specs.declared.Schema.{Schema}
-use Rattle.instance.specs.declared.Instance.{Instance}
-use Rattle.matching.specs.Compared.{partners_of}
 use Rattle.migration.specs.declared.matchings.Side.{Side}
 use Rattle.migration.specs.declared.matchings.Side.TheVariants as side
 use Rattle.migration.specs.Sides.{Inputs, sized}
 
--- the number with which the sheet is sent back, or the partners of A's rows
-abbrev pub judged_matching : Schema → Instance → ℕ → List ℕ → Judged (List ℕ)
-judged_matching t a fault list = cond (eqb fault 0) (sound (partners_of t a list)) (faulty fault)
-
--- ---- the partners of each side: 15 of either migrated table, then the matching sheet
+-- ---- 15 of either migrated table, then the matching sheet
 
 abbrev pub pushed_list : Inputs → List ℕ → Outcome (List ℕ)
 pushed_list y k = do

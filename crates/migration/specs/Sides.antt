@@ -10,12 +10,10 @@ use Rattle.meaning.specs.Calls.{Outcome, accepted, ◌>>=◌, at, ensure, ensure
 use Rattle.meaning.specs.Category.{listed_category}
 use Rattle.schema.specs.Decoded.{category_of}
 use Rattle.mapping.specs.Decoded.{mapping_of}
-use Rattle.instance.specs.Decoded.{tables_of, Limits, RoomFor}
-use Rattle.instance.specs.Tested.{Accepted}
+use Rattle.instance.specs.Decoded.{tables_of, RoomFor}
 use Rattle.steps.specs.declared.open.Opened.{Opened}
 use Rattle.migration.specs.declared.sides.Sides.{Sides}
-use Rattle.steps.specs.Answers.{outcome_of}
-use Rattle.steps.specs.Opened.{migration_of, Ready}
+use Rattle.steps.specs.Opened.{migration_of, Ready, SoundTables}
 
 -- a mapping with its schemas, a run and a book
 pub record Inputs : Type 0 where
@@ -45,26 +43,19 @@ sides_of y = record { m = y.m; run = y.run; book = y.book; pushed = sigma (liste
 
 -- ---- in working arrays: the run's links and values, and the book's
 
-abbrev pub inputs_of : Sides → List ℕ → List ℕ → List ℕ → List ℕ → Inputs
-inputs_of x links values links' values' = record {
-  m = migration_of x.opened;
-  run = tables_of x.opened.source x.run links values;
-  book = tables_of x.opened.target x.book links' values';
+abbrev pub inputs_of : Opened → Sides → List ℕ → List ℕ → List ℕ → List ℕ → Inputs
+inputs_of o x links values links' values' = record {
+  m = migration_of o;
+  run = tables_of o.source x.run links values;
+  book = tables_of o.target x.book links' values';
 }
 
 -- what the migrations of both rely on
-pub record Migratable (x : Sides) (links values links' values' : List ℕ) : Type 0 where
-  pub ready : Ready x.opened
-  pub run_limits : Limits x.opened.source x.run
-  pub book_limits : Limits x.opened.target x.book
-  pub run : Accepted x.opened.source x.run links values
-  pub book : Accepted x.opened.target x.book links' values'
-  pub is-even : even (category_of x.opened.source) (category_of x.opened.target) (mapping_of x.opened.source x.opened.mapping) ≡ true
-
-pub record SidesSay (o : Opened) (x : Sides) (links values links' values' : List ℕ) (X : Outcome Inputs) : Type 0 where
-  pub says : outcome_of x.refusal (inputs_of x links values links' values') ≡ X
-  pub same : x.opened ≡ o
-  pub migratable : (x.refusal.number ≡ 0 → Migratable x links values links' values')
+pub record Migratable (o : Opened) (x : Sides) (links values links' values' : List ℕ) : Type 0 where
+  pub ready : Ready o
+  pub run : SoundTables o.source x.run links values
+  pub book : SoundTables o.target x.book links' values'
+  pub is-even : even (category_of o.source) (category_of o.target) (mapping_of o.source o.mapping) ≡ true
 
 -- room for the run, for the book, and for Sigma of the run or Delta of the book
 pub record Rooms (o : Opened) (links values links' values' made-links made-values : List ℕ) : Type 0 where

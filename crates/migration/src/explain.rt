@@ -9,8 +9,10 @@ ghost use Rattle.migration.specs.Answers.{explained};
 use crate::Explained;
 use chain::first_chain;
 use encoding::chains::{chain_length, write_chain};
-use schema::{Path, Schema, judge_path, judge_schema};
+use schema::faults::Fault;
+use schema::{Path, Schema};
 use steps::Refusal;
+use steps::open::{accept_schema, open_path};
 
 // The chain between two paths of a judged schema, into a tray.
 fn explain(t: Schema, a: Path, b: Path, tray: &mut [u8]) -> Explained
@@ -20,15 +22,12 @@ fn explain(t: Schema, a: Path, b: Path, tray: &mut [u8]) -> Explained
     let mut steps = [0u32; chain::STEPS];
     let n = first_chain(t, a, b, &mut steps);
     if n >= chain::NONE {
-        return Explained::Unequal;
+        return Ok(None);
     }
-    if chain_length(n) <= tray.len() {
-        return Explained::Chain(write_chain(&mut *tray, &steps, n));
+    if chain_length(n) > tray.len() {
+        return Err(Refusal::of_all(Fault::SmallTray));
     }
-    Explained::Refused(Refusal {
-        number: Refusal::SMALL_TRAY,
-        place: 0,
-    })
+    Ok(Some(write_chain(tray, &steps, n)))
 }
 
 // The first of the shortest chains of steps from the path p to the path q of the schema s, as a sheet in a tray; where the paths are unequal the tray is
@@ -36,13 +35,8 @@ fn explain(t: Schema, a: Path, b: Path, tray: &mut [u8]) -> Explained
 pub fn path_chain(s: &[u8], p: &[u8], q: &[u8], tray: &mut [u8]) -> Explained
     ensures { (result, tray.new) ≡ explained (in_tray tray.old (path_chain s.now p.now q.now)) }
 {
-    let schema = judge_schema(s);
-    let graph = schema.graph;
-    let a = judge_path(graph, p);
-    let b = judge_path(graph, q);
-    let refusal = Refusal::first(schema.fault, a.fault, b.fault);
-    if refusal.number == 0 {
-        return explain(schema, a.path, b.path, &mut *tray);
-    }
-    Explained::Refused(refusal)
+    let schema = accept_schema(s, 1)?;
+    let a = open_path(&schema.graph, p, 2)?;
+    let b = open_path(&schema.graph, q, 3)?;
+    explain(schema, a, b, tray)
 }

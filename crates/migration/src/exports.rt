@@ -2,23 +2,23 @@
 // which is 0 where there is no chain), a refusal as 2^32 + 256 * number + place.
 ghost use Rattle.std.specs.Prelude.{◌≡◌};
 ghost use Rattle.meaning.specs.Calls.{refused, check_schema, check_mapping, check_instance, path_question, path_chain, delta_tables, sigma_tables, pi_tables, sheet_of, check_pushed, check_raw, pushed_to_raw, raw_to_pushed, in_tray};
-ghost use Rattle.migration.specs.Answers.{verdict_of, explained_of, encoded, checked, returned};
-ghost use Rattle.steps.specs.Answers.{written_of};
+ghost use Rattle.migration.specs.Answers.{explained_of, encoded, checked, returned};
+ghost use Rattle.steps.specs.Answers.{verdict_of, written_of};
 
+use crate::Explained;
 use crate::checks::{check_instance, check_mapping, check_pushed, check_raw, check_schema};
 use crate::explain::path_chain;
 use crate::first::first_path;
 use crate::joins::pi;
 use crate::migrate::{delta, sigma};
 use crate::turnings::{pushed_to_raw, raw_to_pushed};
-use crate::{Explained, Verdict};
-use steps::{Refusal, Written};
+use steps::{Refusal, Verdict, Written};
 
 // A refusal as a number.
 pub fn refusal_number(refusal: Refusal) -> u64
     ensures { result ≡ encoded (refused refusal.number refusal.place) }
 {
-    4294967296 + 256 * (refusal.number as u64) + refusal.place as u64
+    4294967296 + 256 * u64::from(refusal.number) + u64::from(refusal.place)
 }
 
 // A verdict as a number.
@@ -26,8 +26,8 @@ fn verdict_number(verdict: Verdict) -> u64
     ensures { result ≡ encoded (checked (verdict_of verdict)) }
 {
     match verdict {
-        Verdict::Accepted => 0,
-        Verdict::Refused(refusal) => refusal_number(refusal),
+        Ok(()) => 0,
+        Err(refusal) => refusal_number(refusal),
     }
 }
 
@@ -36,9 +36,9 @@ fn explained_number(answer: Explained) -> u64
     ensures { result ≡ encoded (explained_of answer) }
 {
     match answer {
-        Explained::Chain(n) => n as u64,
-        Explained::Unequal => 0,
-        Explained::Refused(refusal) => refusal_number(refusal),
+        Ok(Some(n)) => n as u64,
+        Ok(None) => 0,
+        Err(refusal) => refusal_number(refusal),
     }
 }
 
@@ -47,8 +47,8 @@ pub fn written_number(written: Written) -> u64
     ensures { result ≡ encoded (written_of written) }
 {
     match written {
-        Written::Bytes(n) => n as u64,
-        Written::Refused(refusal) => refusal_number(refusal),
+        Ok(n) => n as u64,
+        Err(refusal) => refusal_number(refusal),
     }
 }
 
@@ -77,35 +77,35 @@ pub extern "C" fn migration_check_instance(s: &[u8], i: &[u8]) -> u64
 pub extern "C" fn migration_first_path(s: &[u8], p: &[u8], tray: &mut [u8]) -> u64
     ensures { (result, tray.new) ≡ returned (in_tray tray.old (path_question s.now p.now)) }
 {
-    written_number(first_path(s, p, &mut *tray))
+    written_number(first_path(s, p, tray))
 }
 
 #[unsafe(no_mangle)]
 pub extern "C" fn migration_path_chain(s: &[u8], p: &[u8], q: &[u8], tray: &mut [u8]) -> u64
     ensures { (result, tray.new) ≡ returned (in_tray tray.old (path_chain s.now p.now q.now)) }
 {
-    explained_number(path_chain(s, p, q, &mut *tray))
+    explained_number(path_chain(s, p, q, tray))
 }
 
 #[unsafe(no_mangle)]
 pub extern "C" fn migration_delta(s: &[u8], t: &[u8], f: &[u8], j: &[u8], tray: &mut [u8]) -> u64
     ensures { (result, tray.new) ≡ returned (in_tray tray.old (sheet_of (delta_tables s.now t.now f.now j.now))) }
 {
-    written_number(delta(s, t, f, j, &mut *tray))
+    written_number(delta(s, t, f, j, tray))
 }
 
 #[unsafe(no_mangle)]
 pub extern "C" fn migration_sigma(s: &[u8], t: &[u8], f: &[u8], i: &[u8], tray: &mut [u8]) -> u64
     ensures { (result, tray.new) ≡ returned (in_tray tray.old (sheet_of (sigma_tables s.now t.now f.now i.now))) }
 {
-    written_number(sigma(s, t, f, i, &mut *tray))
+    written_number(sigma(s, t, f, i, tray))
 }
 
 #[unsafe(no_mangle)]
 pub extern "C" fn migration_pi(s: &[u8], t: &[u8], f: &[u8], i: &[u8], tray: &mut [u8]) -> u64
     ensures { (result, tray.new) ≡ returned (in_tray tray.old (sheet_of (pi_tables s.now t.now f.now i.now))) }
 {
-    written_number(pi(s, t, f, i, &mut *tray))
+    written_number(pi(s, t, f, i, tray))
 }
 
 #[unsafe(no_mangle)]
@@ -148,7 +148,7 @@ pub extern "C" fn migration_pushed_to_raw(
 ) -> u64
     ensures { (result, tray.new) ≡ returned (in_tray tray.old (pushed_to_raw s.now t.now f.now run.now book.now list.now)) }
 {
-    written_number(pushed_to_raw(s, t, f, run, book, list, &mut *tray))
+    written_number(pushed_to_raw(s, t, f, run, book, list, tray))
 }
 
 #[unsafe(no_mangle)]
@@ -163,5 +163,5 @@ pub extern "C" fn migration_raw_to_pushed(
 ) -> u64
     ensures { (result, tray.new) ≡ returned (in_tray tray.old (raw_to_pushed s.now t.now f.now run.now book.now list.now)) }
 {
-    written_number(raw_to_pushed(s, t, f, run, book, list, &mut *tray))
+    written_number(raw_to_pushed(s, t, f, run, book, list, tray))
 }

@@ -9,7 +9,9 @@ ghost use Rattle.steps.specs.Answers.{lent_of};
 
 use encoding::paths::{path_length, write_path};
 use mapping::edges::first_edges;
-use schema::{Path, Schema, judge_path, judge_schema};
+use schema::faults::Fault;
+use schema::{Path, Schema};
+use steps::open::{accept_schema, open_path};
 use steps::{Refusal, Written};
 
 // The first path of the class of a path of a judged schema, into a tray.
@@ -18,14 +20,11 @@ fn write_first(t: Schema, a: Path, tray: &mut [u8]) -> Written
     ensures { lent_of result tray.new ≡ in_tray tray.old (accepted (path_sheet (first_path (schema_of t) (path_of a)))) }
 {
     let first = first_edges(t, a);
-    let n = first.length as usize;
-    if path_length(n) <= tray.len() {
-        return Written::Bytes(write_path(&mut *tray, a.start, &first.edges, n));
+    let n = usize::from(first.length);
+    if path_length(n) > tray.len() {
+        return Err(Refusal::of_all(Fault::SmallTray));
     }
-    Written::Refused(Refusal {
-        number: Refusal::SMALL_TRAY,
-        place: 0,
-    })
+    Ok(write_path(tray, a.start, &first.edges, n))
 }
 
 // The first path of the schema s, by length, then start node, then edge numbers from the left, that is equal to the path p, as a sheet in a tray. Two
@@ -33,15 +32,7 @@ fn write_first(t: Schema, a: Path, tray: &mut [u8]) -> Written
 pub fn first_path(s: &[u8], p: &[u8], tray: &mut [u8]) -> Written
     ensures { lent_of result tray.new ≡ in_tray tray.old (path_question s.now p.now) }
 {
-    let schema = judge_schema(s);
-    let a = judge_path(schema.graph, p);
-    let first = Refusal {
-        number: schema.fault,
-        place: 1,
-    };
-    let refusal = first.or(a.fault, 2);
-    if refusal.number == 0 {
-        return write_first(schema, a.path, &mut *tray);
-    }
-    Written::Refused(refusal)
+    let schema = accept_schema(s, 1)?;
+    let path = open_path(&schema.graph, p, 2)?;
+    write_first(schema, path, tray)
 }

@@ -19,20 +19,8 @@ pub use first::first_path;
 pub use joins::pi;
 pub use migrate::{delta, sigma};
 pub use printing::push;
-pub use steps::{Refusal, Written};
+pub use steps::{Refusal, Verdict, Written};
 pub use turnings::{pushed_to_raw, raw_to_pushed};
 
-// The answer of a check.
-#[derive(Clone, Copy)]
-pub enum Verdict {
-    Accepted,
-    Refused(Refusal),
-}
-
-// The answer to which steps lead from one path to another: the byte length of the chain's sheet, or that the paths are unequal.
-#[derive(Clone, Copy)]
-pub enum Explained {
-    Chain(usize),
-    Unequal,
-    Refused(Refusal),
-}
+// The answer to which steps lead from one path to another: the byte length of the chain's sheet, or that there is none, the paths being unequal.
+pub type Explained = Result<Option<usize>, Refusal>;

@@ -21,7 +21,10 @@ use Rattle.schema.specs.declared.Graph as declared
 use Rattle.schema.specs.Decoded.{graph_of}
 use Rattle.schema.specs.Counted.{Fit}
 use Rattle.schema.proofs.GraphEdges.{edges-count, source-at, target_at}
+use Rattle.std.specs.Prelude.{Option}
 use Rattle.paths.specs.declared.Paths.{Paths}
+use Rattle.paths.specs.Chains.{Nowhere, FirstAt, NextAt, Chained, next_place}
+use Rattle.paths.proofs.Chaining.{next_place_lem}
 use Rattle.paths.specs.PathNumbers.{initial, final, start_of, end_of, length_of, parent_of, last_of, first_of, leaving_below, rank_of}
 use Rattle.paths.specs.Table.{Filled, Ranked, Columns, Trivial, IsTable}
 use Rattle.paths.proofs.PathNumbers.{below-here, below-skip, trivial-at, trivial-count, first_more, first-end, next-at}
@@ -233,3 +236,100 @@ module _ (G : Graph) (acyclic : has_loop G ≡ false) where
         first = subst (λ (x : ℕ). Filled 257 (first_of G) (x + 1) t.first) (d.0 ∙ sym d.1) f.first;
         rank = ranked;
       }
+
+-- ---- the next edge that leaves the end of path h, by the chains through the edges' sources
+module _ (g : declared.Graph) (fits : Fit g) (acyclic : has_loop (graph_of g) ≡ false) {n h e : ℕ} {t : Paths} (f : Filling (graph_of g) n h e t) (less : h < path_count (graph_of g)) where
+  abbrev G : Graph
+  G = graph_of g
+
+  edges_are : length G.edges ≡ g.edges
+  edges_are = edges-count g.edges g.source g.target
+
+  pub row-end : get_or t.end h 0 ≡ end_of G h
+  row-end = filling-end G acyclic f less
+
+  pub row-end_low : get_or t.end h 0 < 16
+  row-end_low = omega (arith, row-end, end_low g fits acyclic h less, fits.nodes)
+
+  pub next-edge : {next first : List (Option ℕ)} → Chained g.source g.edges 0 next first → (0 < e → get_or g.source (e - 1) 0 ≡ end_of G h) → {x : Option ℕ} → x ≡ next_place next first (get_or t.end h 0) e → NextAt g.source (end_of G h) e g.edges x
+  next-edge {next} {first} c came {x} is =
+      subst (NextAt g.source (end_of G h) e g.edges) (sym (is ∙ ap (λ (v : ℕ). next_place next first v e) row-end))
+      (next_place_lem c (let l = row-end_low in omega (arith, row-end)) (omega (arith, f.within, edges_are)) came)
+
+  -- it is edge k
+  module _ {k : ℕ} (found : FirstAt g.source (end_of G h) e g.edges k) where
+    edge_in : k < length G.edges
+    edge_in = let w = found.within in omega (arith, edges_are)
+
+    leaves : source G k ≡ end_of G h
+    leaves = source-at g.edges g.source g.target k found.within ∙ found.holds
+
+    reached : Filling G n h k t
+    reached = filling-to G acyclic f less found.later (omega (arith, edge_in)) (λ j a b q. found.none j a b (sym (source-at g.edges g.source g.target j (let w = found.within in omega arith)) ∙ q))
+
+    pub row-room : n < path_count G
+    row-room = filling-in G acyclic reached less edge_in leaves
+
+    -- its row is written
+    pub filling-write : path_count G ≤ 256 → {edge : ℕ} → k ≡ edge → Filling G (n + 1) h (k + 1) (record {
+      count = t.count;
+      start = set t.start n (get_or t.start h 0);
+      end = set t.end n (get_or g.target k 0);
+      length = set t.length n (get_or t.length h 0 + 1);
+      parent = set t.parent n h;
+      last = set t.last n edge;
+      class = t.class;
+      first = t.first;
+      rank = t.rank;
+    })
+    filling-write few {edge} is =
+        let u = reached in
+        let m : n < 256 = omega (arith, row-room) in
+        let w = filling-row G acyclic f less in
+        let r = filling-is G acyclic u less edge_in leaves in
+        record {
+          some = u.some;
+          low = omega (arith, row-room);
+          within = omega (arith, edge_in);
+          fresh = λ x. absurd (omega arith);
+          next = filling-more G acyclic u less edge_in leaves;
+          columns = record {
+            start = filled_more u.columns.start m (u.columns.start.each h w ∙ sym r.start);
+            end = filled_more u.columns.end m (sym (r.end ∙ target_at g.edges g.source g.target k found.within));
+            length = filled_more u.columns.length m (ap (λ (x : ℕ). x + 1) (u.columns.length.each h w) ∙ sym r.length);
+            parent = filled_more u.columns.parent m (sym r.parent);
+            last = filled_more u.columns.last m (sym is ∙ sym r.last);
+          };
+          first = u.first;
+        }
+
+  -- there is none
+  module _ (none : Nowhere g.source (end_of G h) e g.edges) where
+    followed_by : n ≡ first_of G (h + 1)
+    followed_by =
+        filling-first G acyclic
+        (filling-to G acyclic f less {k = g.edges} (omega (arith, f.within, edges_are)) (omega (arith, edges_are)) (λ j a b q. none.none j a b (sym (source-at g.edges g.source g.target j a) ∙ q)))
+        less (omega (arith, edges_are))
+
+    pub filling-next : path_count G ≤ 256 → Filling G n (h + 1) 0 (record {
+      count = t.count;
+      start = t.start;
+      end = t.end;
+      length = t.length;
+      parent = t.parent;
+      last = t.last;
+      class = t.class;
+      first = set t.first (h + 1) n;
+      rank = t.rank;
+    })
+    filling-next few =
+        let k = f.columns in
+        record {
+          some = omega arith;
+          low = f.low;
+          within = omega arith;
+          fresh = λ _. refl;
+          next = omega (arith, followed_by);
+          columns = record { start = k.start; end = k.end; length = k.length; parent = k.parent; last = k.last };
+          first = filled_more f.first (omega arith) followed_by;
+        }

@@ -14,7 +14,8 @@ use Rattle.meaning.specs.Lists.{range, upto, concat_map}
 use Rattle.meaning.proofs.Tabulate.{rest_more, rest-done}
 use Rattle.meaning.proofs.Lists.{upto-length, upto-get_or}
 use Rattle.paths.specs.Table.{Filled}
-use Rattle.paths.specs.Chains.{NextAt}
+use Rattle.std.specs.Prelude.{Option, unwrap_or}
+use Rattle.paths.proofs.Chaining.{Ahead}
 use Rattle.paths.specs.Classes.{join_classes, renamed_to, join_numbers, run_pairs, follower_pairs, RunsIn}
 
 -- ---- a list mapped in place: its first i elements are
@@ -155,5 +156,5 @@ turns-to {F} {n} {i} {k} {l} {m} (suc d) e t h none =
     turns-to {i = i + 1} d (omega arith) (turns_more t (omega arith) (rw (none i less (omega arith)))) h (λ j a b. none j a (omega arith))
 
 -- behind paths that end elsewhere there is nothing to join
-pub turns_next : {F : ℕ → List (ℕ × ℕ)} {n i k v : ℕ} {l m ends : List ℕ} → ((j : ℕ) → (get_or ends j 0 ≡ v → ⊥) → F j ≡ []) → Turns F n l i m → NextAt ends v i n k → Turns F n l k m
-turns_next {n} {i} {k} elsewhere t e = let h = e.later in turns-to (k - i) (omega arith) t e.within (λ j x y. elsewhere j (e.none j x y))
+pub turns_next : {F : ℕ → List (ℕ × ℕ)} {n i v : ℕ} {x : Option ℕ} {l m ends : List ℕ} → ((j : ℕ) → (get_or ends j 0 ≡ v → ⊥) → F j ≡ []) → Turns F n l i m → Ahead ends v i n x → Turns F n l (unwrap_or x n) m
+turns_next {n} {i} {x = x} elsewhere t e = let h = e.later in turns-to (unwrap_or x n - i) (omega arith) t e.within (λ j x y. elsewhere j (e.none j x y))

@@ -1,33 +1,39 @@
 // Chains through a column of numbers: from each place to the next one that holds the same number.
-ghost use Rattle.std.specs.Prelude.{◌≡◌, ◌≤◌, ◌<◌, length, replicate};
+ghost use Rattle.std.specs.Prelude.{◌≡◌, ◌≤◌, ◌<◌, length, replicate, None};
 ghost use Rattle.paths.specs.Chains.{Small, Chained, next_place};
 
 use schema::Schema;
-use schema::numbers::{index, wide};
 
-// The chains through the first count places of a column: after each place the next one with its number, and for each number the first place of all; count
-// where there is none, which is what first holds before.
-pub fn chain(column: &[u8], count: usize, next: &mut [u16], first: &mut [u16; Schema::NODES])
-    requires { Small column.now count × (count ≤ length next.old) × (first.old ≡ replicate 16 count) }
+// The chains through the first count places of a column: after each place the next one with its number, and for each number the first place of all, where
+// there is one.
+pub fn chain(
+    column: &[u8],
+    count: usize,
+    next: &mut [Option<u8>],
+    first: &mut [Option<u8>; Schema::NODES],
+)
+    requires { Small column.now count × (count ≤ length next.old) × (first.old ≡ replicate 16 None) }
     ensures { Chained column.now count 0 next.new first.new }
 {
-    let mut i = count;
-    while i > 0 {
-        i -= 1;
-        let v = wide(column[i]);
-        let after = first[v];
-        next[i] = after;
-        first[v] = i as u16;
+    for i in (0..count).rev() {
+        let v = usize::from(column[i]);
+        next[i] = first[v];
+        first[v] = Some(i as u8);
     }
 }
 
 // The first place from place i on that holds v, where the place before i holds it too.
-pub fn next_place<'a>(next: &'a [u16], first: &'a [u16; Schema::NODES], v: u8, i: usize) -> usize
+pub fn next_place(
+    next: &[Option<u8>],
+    first: &[Option<u8>; Schema::NODES],
+    v: u8,
+    i: usize,
+) -> Option<u8>
     requires { (v < 16) × (i ≤ length next.now) }
     ensures { result ≡ next_place next.now first.now v i }
 {
     if i == 0 {
-        return index(first[wide(v)]);
+        return first[usize::from(v)];
     }
-    index(next[i - 1])
+    next[i - 1]
 }

@@ -10,7 +10,6 @@ ghost use Rattle.paths.specs.Classes.{renamed_to, join_classes, join_numbers, ru
 use crate::Paths;
 use crate::chains::chain;
 use crate::walk::walk;
-use schema::numbers::{index, wide};
 use schema::{Path, Schema};
 
 // The class number of each path.
@@ -19,33 +18,23 @@ pub struct Classes {
     pub of: [u8; Schema::PATHS],
 }
 
+// Each path in a class of its own.
 fn own_classes() -> Classes
     ensures { result.of ≡ upto 256 }
 {
     let mut of = [0u8; Schema::PATHS];
-    let mut i = 0;
-    while i < Schema::PATHS {
+    for i in 0..Schema::PATHS {
         of[i] = i as u8;
-        i += 1;
     }
-    Classes { of: of }
-}
-
-fn renamed(old: u8, new: u8, x: u8) -> u8
-    ensures { result ≡ renamed_to old new x }
-{
-    if x == old { new } else { x }
+    Classes { of }
 }
 
 // Class old gets the number new.
 fn rename(of: &mut [u8; Schema::PATHS], old: u8, new: u8)
     ensures { of.new ≡ map (renamed_to old new) of.old }
 {
-    let all: &mut [u8] = of;
-    let mut i = 0;
-    while i < Schema::PATHS {
-        all[i] = renamed(old, new, all[i]);
-        i += 1;
+    for x in of.iter_mut() {
+        *x = if *x == old { new } else { *x };
     }
 }
 
@@ -54,10 +43,10 @@ fn join(of: &mut [u8; Schema::PATHS], x: u8, y: u8)
     ensures { of.new ≡ join_classes x y of.old }
 {
     if x < y {
-        rename(&mut *of, y, x);
+        rename(of, y, x);
         return;
     }
-    rename(&mut *of, x, y);
+    rename(of, x, y);
 }
 
 // The classes of n paths from a on and of n from b on, joined in turn.
@@ -65,13 +54,11 @@ fn join_runs(of: &mut [u8; Schema::PATHS], a: usize, b: usize, n: usize)
     requires { (a + n ≤ 256) × (b + n ≤ 256) }
     ensures { of.new ≡ join_numbers (run_pairs a b n) of.old }
 {
-    let mut j = 0;
-    while j < n {
+    for j in 0..n {
         let x = of[a + j];
         let y = of[b + j];
-        j += 1;
         if x != y {
-            join(&mut *of, x, y);
+            join(of, x, y);
         }
     }
 }
@@ -90,26 +77,24 @@ fn join_followers(
     let mut x = a;
     let mut y = b;
     let mut n = 1;
-    let mut d = depth;
-    while d > 0 {
+    for _done in 0..depth {
         if n == 0 {
             return;
         }
-        join_runs(&mut *of, x, y, n);
-        let next = index(first[x]);
-        n = index(first[x + n]) - next;
+        join_runs(of, x, y, n);
+        let next = usize::from(first[x]);
+        n = usize::from(first[x + n]) - next;
         x = next;
-        y = index(first[y]);
-        d -= 1;
+        y = usize::from(first[y]);
     }
 }
 
 // The classes that an equation joins: behind each path u that ends at its start. Of each path, next has the next one with its end, and of each node,
-// ends has the first.
-fn join_equation<'a>(
+// ends has the first, where there is one.
+fn join_equation(
     p: Paths,
-    next: &'a [u16],
-    ends: &'a [u16; Schema::NODES],
+    next: &[Option<u8>],
+    ends: &[Option<u8>; Schema::NODES],
     of: &mut [u8; Schema::PATHS],
     left: Path,
     right: Path,
@@ -118,15 +103,15 @@ fn join_equation<'a>(
     requires { Joinable p nodes left right × (p.count ≤ length next.now) × Chained p.end p.count 0 next.now ends.now }
     ensures { of.new ≡ join_numbers (equation_pairs p nodes left right) of.old }
 {
-    let count = p.count;
     let first = p.first;
     let rank = p.rank;
-    let mut u = index(ends[wide(left.start)]);
-    while u < count {
-        let a = walk(&first, &rank, u, &left.edges, left.length as usize);
-        let b = walk(&first, &rank, u, &right.edges, right.length as usize);
-        join_followers(&first, &mut *of, a, b, nodes);
-        u = index(next[u]);
+    let mut at = ends[usize::from(left.start)];
+    while let Some(path) = at {
+        let u = usize::from(path);
+        let a = walk(&first, &rank, u, &left.edges, usize::from(left.length));
+        let b = walk(&first, &rank, u, &right.edges, usize::from(right.length));
+        join_followers(&first, of, a, b, nodes);
+        at = next[u];
     }
 }
 
@@ -143,16 +128,12 @@ pub fn class_numbers(t: Schema, p: Paths) -> Classes
     let lefts = t.left;
     let rights = t.right;
     let end = p.end;
-    let mut next = [0u16; Schema::PATHS];
-    let mut ends = [p.count as u16; Schema::NODES];
+    let mut next = [None; Schema::PATHS];
+    let mut ends = [None; Schema::NODES];
     chain(&end, p.count, &mut next, &mut ends);
     let mut c = own_classes();
-    let mut q = 0;
-    while q < n {
-        let left = lefts[q];
-        let right = rights[q];
-        join_equation(p, &next, &ends, &mut c.of, left, right, nodes);
-        q += 1;
+    for q in 0..n {
+        join_equation(p, &next, &ends, &mut c.of, lefts[q], rights[q], nodes);
     }
     c
 }

@@ -15,6 +15,7 @@ use schema::Schema;
 // All paths of a graph, numbered in the paper's order. For each path: its start, its end and its length; the number of the path without its
 // last edge, and that edge; the number of the first path of its class. The paths that follow path i by one edge stand from first[i] on, in
 // the order of the edges; an edge's rank is its place among those that leave its source.
+// Kept: an array for each number and not one of rows, since walks and look-ups are lent the one or two that they read, as bytes side by side.
 #[derive(Clone, Copy)]
 pub struct Paths {
     pub count: usize,

@@ -9,7 +9,6 @@ ghost use Rattle.paths.specs.Classes.{IsPaths};
 use crate::Paths;
 use crate::chains::{chain, next_place};
 use crate::classes::class_numbers;
-use schema::numbers::wide;
 use schema::{Graph, Schema};
 
 // For each edge its place among those that leave its source.
@@ -20,13 +19,10 @@ fn rank_edges(g: Graph) -> [u8; Schema::EDGES]
     let edges = g.edges;
     let mut seen = [0u8; Schema::NODES];
     let mut rank = [0u8; Schema::EDGES];
-    let mut e = 0;
-    while e < edges {
-        let node = wide(g.source[e]);
-        let n = seen[node];
-        rank[e] = n;
-        seen[node] = n + 1;
-        e += 1;
+    for e in 0..edges {
+        let node = usize::from(g.source[e]);
+        rank[e] = seen[node];
+        seen[node] += 1;
     }
     rank
 }
@@ -40,10 +36,8 @@ fn trivial_paths(nodes: usize) -> Paths
     let mut number = [0u8; Schema::PATHS];
     let mut first = [0u16; Schema::PATHS + 1];
     first[0] = nodes as u16;
-    let mut n = 0;
-    while n < nodes {
+    for n in 0..nodes {
         number[n] = n as u8;
-        n += 1;
     }
     Paths {
         count: 0,
@@ -53,7 +47,7 @@ fn trivial_paths(nodes: usize) -> Paths
         parent: number,
         last: zeros,
         class: zeros,
-        first: first,
+        first,
         rank: [0u8; Schema::EDGES],
     }
 }
@@ -64,31 +58,33 @@ pub fn fill(schema: Schema) -> Paths
     ensures { IsPaths (schema_of schema) result }
 {
     let g = schema.graph;
-    let edges = g.edges;
-    let mut next = [0u16; Schema::EDGES];
-    let mut leaving = [edges as u16; Schema::NODES];
-    chain(&g.source, edges, &mut next, &mut leaving);
+    let mut next = [None; Schema::EDGES];
+    let mut leaving = [None; Schema::NODES];
+    chain(&g.source, g.edges, &mut next, &mut leaving);
     let mut t = trivial_paths(g.nodes);
     let mut n = g.nodes;
     let mut h = 0;
     let mut e = 0;
     while h < n {
         let node = t.end[h];
-        let k = next_place(&next, &leaving, node, e);
-        if k < edges {
-            let start = t.start[h];
-            let longer = t.length[h] + 1;
-            t.start[n] = start;
-            t.end[n] = g.target[k];
-            t.length[n] = longer;
-            t.parent[n] = h as u8;
-            t.last[n] = k as u8;
-            n += 1;
-            e = k + 1;
-        } else {
-            h += 1;
-            t.first[h] = n as u16;
-            e = 0;
+        match next_place(&next, &leaving, node, e) {
+            Some(edge) => {
+                let k = usize::from(edge);
+                let start = t.start[h];
+                let longer = t.length[h] + 1;
+                t.start[n] = start;
+                t.end[n] = g.target[k];
+                t.length[n] = longer;
+                t.parent[n] = h as u8;
+                t.last[n] = edge;
+                n += 1;
+                e = k + 1;
+            }
+            None => {
+                h += 1;
+                t.first[h] = n as u16;
+                e = 0;
+            }
         }
     }
     let rank = rank_edges(g);

@@ -5,33 +5,29 @@ ghost use Rattle.schema.specs.Decoded.{path_of};
 ghost use Rattle.paths.specs.PathWalks.{walk_from, WalkIn};
 
 use crate::Paths;
-use schema::numbers::wide;
 use schema::{Path, Schema};
 
 // The number of the path that follows by an edge of a rank, where those that follow begin at first.
 pub fn sum(first: u16, rank: u8) -> usize
     ensures { result ≡ first + rank }
 {
-    first as usize + rank as usize
+    usize::from(first) + usize::from(rank)
 }
 
 // The number of path from, followed by n edges that join up with it.
-pub fn walk<'a>(
-    first: &'a [u16; Schema::PATHS + 1],
-    rank: &'a [u8; Schema::EDGES],
+pub fn walk(
+    first: &[u16; Schema::PATHS + 1],
+    rank: &[u8; Schema::EDGES],
     from: usize,
-    edges: &'a [u8; Path::EDGES],
+    edges: &[u8; Path::EDGES],
     n: usize,
 ) -> usize
     requires { (n ≤ 16) × WalkIn first.now rank.now «from» (tabulate n (λ i. get_or edges.now i 0)) }
     ensures { result ≡ walk_from first.now rank.now «from» (tabulate n (λ i. get_or edges.now i 0)) }
 {
     let mut x = from;
-    let mut i = 0;
-    while i < n {
-        let e = wide(edges[i]);
-        x = sum(first[x], rank[e]);
-        i += 1;
+    for e in &edges[..n] {
+        x = sum(first[x], rank[usize::from(*e)]);
     }
     x
 }
@@ -44,8 +40,8 @@ pub fn path_number(p: Paths, w: Path) -> usize
     walk(
         &p.first,
         &p.rank,
-        wide(w.start),
+        usize::from(w.start),
         &w.edges,
-        w.length as usize,
+        usize::from(w.length),
     )
 }

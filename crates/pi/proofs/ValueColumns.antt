@@ -29,7 +29,7 @@ use Rattle.mapping.specs.declared.Mapping.{Mapping}
 use Rattle.mapping.specs.Decoded.{mapping_of}
 use Rattle.mapping.proofs.Viewing.{attributes-count, attribute-is}
 use Rattle.pi.specs.declared.components.Components.{Components}
-use Rattle.pi.specs.declared.links.TableRows.{TableRows}
+use Rattle.pi.specs.declared.listed.TableRows.{TableRows}
 use Rattle.pi.specs.Given.{Mapped}
 use Rattle.pi.specs.Components.{components_of}
 use Rattle.pi.specs.Families.{Gathered, families_of, family_count, FamiliesUpto}
@@ -37,7 +37,8 @@ use Rattle.pi.specs.Links.{entry_of, table_rows}
 use Rattle.pi.specs.Values.{attribute_over, attribute_node, value_place, value_through, value_row}
 use Rattle.pi.proofs.Places.{place_is}
 use Rattle.pi.proofs.ComponentFacts.{few-at}
-use Rattle.pi.proofs.ListedRows.{map-places, entry-list, entry-is}
+use Rattle.pi.proofs.Rows.{entry-column}
+use Rattle.pi.proofs.ListedRows.{map-places, entry-is}
 
 -- ---- the attribute whose image is b
 module _ (s t : Schema) (f : Mapping) (B : is_bijective (schema_of t) (mapping_of s f) ≡ true) where
@@ -51,9 +52,7 @@ module _ (s t : Schema) (f : Mapping) (B : is_bijective (schema_of t) (mapping_o
 -- ---- the values of row r of attribute a
 value-is : (s : Schema) (run : Instance) (links values : List ℕ) (a r : ℕ) → a < s.attributes → entry_of values (512 * a) (rows_of s.node run.counts a) r ≡ value (tables_of s run links values) a r
 value-is s run links values a r l =
-    let n = rows_of s.node run.counts a in
-    let column : List ℕ = column_of values (512 * a) n in
-    entry-list values (512 * a) n r column (tabulate-length n (λ i. get_or values (512 * a + i) 0)) (λ i h. sym (tabulate-get_or n (λ i. get_or values (512 * a + i) 0) 0 i h))
+    entry-column values (512 * a) (rows_of s.node run.counts a) r
     ∙ ap (λ (c : List ℕ). get_or c r 0) (sym (tabulate-get_or s.attributes (λ i. column_of values (512 * i) (rows_of s.node run.counts i)) [] a l))
 
 module _ {s t : Schema} {paths : Paths} {f : Mapping} {k : Components} {run : Instance} {links counts table : List ℕ} (M : Mapped s t paths f) (K : Gathered s t f k) (L : FamiliesUpto s t f run links t.graph.nodes counts table) (B : is_bijective (schema_of t) (mapping_of s f) ≡ true) (values : List ℕ) where
@@ -107,6 +106,17 @@ module _ {s t : Schema} {paths : Paths} {f : Mapping} {k : Components} {run : In
 
 -- ---- values stored row by row
 module _ (s t : Schema) (paths : Paths) (k : Components) (image run counts rows values : List ℕ) (b : ℕ) where
-  pub value-stored : {here : TableRows} {place a n : ℕ} {l r : List ℕ} → here ≡ table_rows counts k.count (attribute_node t b) → a ≡ attribute_over s image b → place ≡ value_place s t paths k a b → n ≡ rows_of s.node run a
-      → Stored (value_through rows here place values (512 * a) n) here.count (512 * b) l r → Stored (value_row s t paths k image run counts rows values b) (rows_of t.node counts b) (512 * b) l r
-  value-stored d e f g u = rw (d, g, f, e) at u
+  pub value-stored : {here : TableRows} {place a n : ℕ} {column l r : List ℕ} → here ≡ table_rows counts k.count (attribute_node t b) → a ≡ attribute_over s image b → place ≡ value_place s t paths k a b → n ≡ rows_of s.node run a
+      → column ≡ column_of values (512 * a) n → Stored (λ x. get_or column (get_or (column_of rows (64 * (here.first + x)) here.width) place 0) 0) here.count (512 * b) l r
+      → Stored (value_row s t paths k image run counts rows values b) (rows_of t.node counts b) (512 * b) l r
+  value-stored {here} {place} {a} {n} {column} {l} {r} d e f g c u =
+      let v : Stored (value_through rows here place values (512 * a) n) here.count (512 * b) l r = record {
+        each = λ x h.
+            u.each x h
+            ∙ ap (λ (m : List ℕ). get_or m (get_or (column_of rows (64 * (here.first + x)) here.width) place 0) 0) c
+            ∙ ap (λ (p : ℕ). get_or (column_of values (512 * a) n) p 0) (sym (entry-column rows (64 * (here.first + x)) here.width place))
+            ∙ sym (entry-column values (512 * a) n (entry_of rows (64 * (here.first + x)) here.width place));
+        below = u.below;
+        long = u.long;
+      } in
+      rw (d, g, f, e) at v

@@ -10,7 +10,7 @@ use Rattle.paths.specs.PathWalks.{walk_from, WalkIn}
 use Rattle.instance.specs.Decoded.{column_of}
 use Rattle.mapping.specs.PathEdges.{path_edges}
 use Rattle.pi.specs.declared.components.Components.{Components}
-use Rattle.pi.specs.declared.links.TableRows.{TableRows}
+use Rattle.pi.specs.declared.listed.TableRows.{TableRows}
 use Rattle.pi.specs.Components.{place_of}
 
 -- ---- an edge followed by a path
@@ -74,12 +74,6 @@ pub record Within (rows : List ℕ) (table : TableRows) : Type 0 where
 -- and ascend in lexicographic order
 pub record Ordered (rows : List ℕ) (table : TableRows) : Type 0 where
   pub each : (x y : ℕ) → x < y → y < table.count → Lex (column_of rows (64 * (table.first + x)) table.width) (column_of rows (64 * (table.first + y)) table.width)
-
--- what a comparison says of a row: 0 equal, 1 before the one that is wanted, else behind it
-pub record Compares (row wanted : List ℕ) (r : ℕ) : Type 0 where
-  pub equal : (r ≡ 0 → row ≡ wanted)
-  pub before : (r ≡ 1 → Lex row wanted)
-  pub behind : ((r ≡ 0 → ⊥) → (r ≡ 1 → ⊥) → Lex wanted row)
 
 -- row x of a table with its numbers taken from the given places, among the rows of another table
 abbrev pub link_place : List ℕ → TableRows → TableRows → (ℕ → ℕ) → ℕ → ℕ

@@ -6,7 +6,7 @@ use Rattle.schema.specs.Decoded.{front_of}
 use Rattle.paths.specs.declared.Paths.{Paths}
 use Rattle.instance.specs.Decoded.{rows_of}
 use Rattle.pi.specs.declared.components.Components.{Components}
-use Rattle.pi.specs.declared.links.TableRows.{TableRows}
+use Rattle.pi.specs.declared.listed.TableRows.{TableRows}
 use Rattle.pi.specs.Components.{place_of}
 use Rattle.pi.specs.Links.{entry_of, table_rows, Within}
 

@@ -1,9 +1,8 @@
 -- Pi of Delta's tables, and Sigma of Pi's: what each relies on, and what they say together.
 use Prim.Native.Nat.{ℕ, ◌≤◌}
 use mathlib.Core.Path.{◌≡◌, sym, ap, subst, ◌∙◌}
-use mathlib.Core.Bool.{Bool, true, cond}
+use mathlib.Core.Bool.{true}
 use mathlib.Core.List.{List}
-use native.Mathlib.Omega.{arith}
 use lib.Dec.{leb}
 use Rattle.meaning.specs.Lists.{sum_of}
 use Rattle.meaning.specs.Formats as formats
@@ -11,7 +10,7 @@ use Rattle.meaning.specs.Formats.{max_rows, kinds}
 use Rattle.meaning.specs.Judge.{links_in_range}
 use Rattle.meaning.specs.Sigma.{sigma}
 use Rattle.meaning.specs.Calls as meaning
-use Rattle.meaning.specs.Calls.{Outcome, accepted, ◌>>=◌, ensure_fits}
+use Rattle.meaning.specs.Calls.{Outcome, accepted, refused, ◌>>=◌, ensure, ensure_fits}
 use Rattle.agreement.specs.Valid.{ValidMapping, ValidInstance}
 use Rattle.agreement.proofs.Instances.{links-iff}
 use Rattle.agreement.proofs.Bijections.{bijective-iff}
@@ -22,22 +21,19 @@ use Rattle.instance.specs.Decoded.{tables_of, RoomFor}
 use Rattle.pi.specs.declared.components.Components.{Components}
 use Rattle.pi.specs.declared.families.Listing.{Listing}
 use Rattle.pi.specs.Tables.{PiReady, pi_of, Listed, Made, ListsPi}
+use Rattle.std.proofs.Common.{Result}
 use Rattle.steps.specs.declared.Refusal.{Refusal}
-use Rattle.steps.specs.declared.open.Opened.{Opened}
 use Rattle.steps.specs.declared.results.Migrated.{Migrated}
 use Rattle.steps.specs.Opened.{opened_between}
 use Rattle.steps.specs.Runs.{pushed_run, run_input_of, PushableRun}
 use Rattle.steps.specs.Migrated.{Migrates}
-use Rattle.steps.proofs.Refusing.{refusal, stops}
-use Rattle.steps.proofs.Sizes.{stopped}
-use Rattle.steps.proofs.Opening.{passed}
 use Rattle.steps.proofs.Opening.{mapped}
 use Rattle.steps.proofs.Validity.{sound-valid}
 use Rattle.query.specs.declared.open.Query.{Query}
 use Rattle.query.specs.Opened.{query_of, Ready}
 use Rattle.query.specs.Steps.{pushed_pi, Joinable}
 use Rattle.query.proofs.Opening.{ready-g, ready-h}
-use Rattle.query.proofs.SizeTests.{size-told, fits, fit}
+use Rattle.query.proofs.SizeTests.{passed, fits, fit, stopped}
 
 module _ {q : Query} {k : Components} {pulled : Instance} {links values : List ℕ} (J : Joinable q k pulled links values) where
   abbrev D : formats.Instance
@@ -58,41 +54,39 @@ module _ {q : Query} {k : Components} {pulled : Instance} {links values : List �
   -- what Pi relies on
   pub pi-ready : RoomFor q.second.schema links values → PiReady q.second.schema q.third.schema q.third.paths q.g pulled k links values
   pi-ready R = record {
-    mapped = mapped (ready-g ready q.refusal);
+    mapped = mapped (ready-g ready);
     linked = record { limits = J.limits; room = R.for_links; links_in = (links-iff kinds (schema_of q.second.schema) D J.valid.shaped).1 J.valid.is.link-in };
     values_long = R.for_values;
     bijective = J.tested.bijective;
     gathered = record { all = J.tested.testable.components; few = J.tested.few };
   }
 
-  module _ {l : Listing} {rows : List ℕ} {n : ℕ} (L : ListsPi q.second.schema q.third.schema q.third.paths q.g pulled k links values l rows) (d : n ≡ cond l.fits 0 15) where
-    number_is : n ≡ cond (leb (sum_of P.counts) max_rows) 0 15
-    number_is = d ∙ ap (λ (b : Bool). cond b 0 15) L.fits
-
+  module _ {l : Listing} {rows : List ℕ} (L : ListsPi q.second.schema q.third.schema q.third.paths q.g pulled k links values l rows) where
     -- there are too many families
-    pub families-stopped : (n ≡ 0 → ⊥) → {i : Instance} {l v : List ℕ} → RoomFor q.fourth.schema l v → Migrates (record { refusal = refusal n 0; schema = q.fourth.schema; tables = i }) l v (pushed_pi (query_of q) D)
-    families-stopped some R =
-        stopped ready.schemas.fourth.sound R (record { schema = schema_of q.fourth.schema; tables = P }) some (
-        stops (refusal n 0) P (size-told P number_is) (record { schema = schema_of q.fourth.schema; tables = P }) pushed some)
+    pub families-stopped : {n place : ℕ} → refused n place ≡ ensure l.fits 15 → refused n place ≡ pushed_pi (query_of q) D
+    families-stopped e = stopped P L.fits e pushed
 
-    module _ (z : n ≡ 0) where
+    module _ (t : accepted tt ≡ ensure l.fits 15) where
       all_fit : l.fits ≡ true
-      all_fit = passed l.fits 15 (λ e. omega arith) (sym d ∙ z)
+      all_fit = passed l.fits 15 t
+
+      few : leb (sum_of P.counts) max_rows ≡ true
+      few = sym L.fits ∙ all_fit
 
       pub families-listed : Listed q.second.schema q.third.schema q.third.paths q.g pulled k l.counts rows values
       families-listed = L.listed all_fit
 
       joined-valid : ValidInstance (schema_of q.third.schema) P
-      joined-valid = pi-valid valid-g D ((bijective-iff valid-g).0 J.tested.bijective) J.valid (fit P number_is z)
+      joined-valid = pi-valid valid-g D ((bijective-iff valid-g).0 J.tested.bijective) J.valid (fit P few)
 
       module _ {r : Instance} {found read : List ℕ} (M : Made q.second.schema q.third.schema q.third.paths q.g pulled k l.counts rows values r found read) where
         made-is : tables_of q.third.schema r found read ≡ P
         made-is = M.says ∙ L.says all_fit
 
         -- Pi's tables can be pushed
-        pushable : (s : Refusal) → PushableRun (opened_between s q.third q.fourth q.h) r found read
-        pushable s = record {
-          schemas = (ready-h ready s).schemas;
+        pub families-pushable : PushableRun (opened_between q.third q.fourth q.h) r found read
+        families-pushable = record {
+          schemas = (ready-h ready).schemas;
           mapping = ready.h;
           is-even = J.tested.is-even;
           limits = record { rows = subst (λ (I : formats.Instance). sum_of I.counts ≤ 512) (sym made-is) joined-valid.few_rows; long = M.long };
@@ -100,12 +94,8 @@ module _ {q : Query} {k : Components} {pulled : Instance} {links values : List �
               ((links-iff kinds (schema_of q.third.schema) P joined-valid.shaped).1 joined-valid.is.link-in);
         }
 
-        module _ (s : Refusal) {o : Opened} (e : o ≡ opened_between s q.third q.fourth q.h) where
-          pub families-pushable : RoomFor q.third.schema found read → {l v : List ℕ} → RoomFor q.fourth.schema l v → PushableRun o r found read × RoomFor o.source found read × RoomFor o.target l v
-          families-pushable R {l} {v} R' = subst (λ (o : Opened). PushableRun o r found read × RoomFor o.source found read × RoomFor o.target l v) (sym e) (pushable s, R, R')
-
-          pub families-pushed : {m : Migrated} {l v : List ℕ} → Migrates m l v (pushed_run (run_input_of o r found read)) → Migrates m l v (pushed_pi (query_of q) D)
-          families-pushed u = record {
-            says = u.says ∙ ap (λ (o : Opened). pushed_run (run_input_of o r found read)) e ∙ ap pushed made-is ∙ ap (λ (o : Outcome formats.Instance). o >>= pushed) (sym (fits P number_is z));
-            writable = u.writable;
-          }
+        pub families-pushed : {m : Result Migrated Refusal} {l v : List ℕ} → Migrates m l v (pushed_run (run_input_of (opened_between q.third q.fourth q.h) r found read)) → Migrates m l v (pushed_pi (query_of q) D)
+        families-pushed u = record {
+          says = u.says ∙ ap pushed made-is ∙ ap (λ (o : Outcome formats.Instance). o >>= pushed) (sym (fits P few));
+          writable = u.writable;
+        }

@@ -1,8 +1,8 @@
 -- What the judges of four schemas and three mappings give together, and the tests of the mappings.
-use Rattle.std.specs.Prelude.{ℕ, ◌≡◌, Bool, true, cond, ◌&&◌, List}
+use Rattle.std.specs.Prelude.{ℕ, ◌≡◌, Bool, true, ◌&&◌, List}
 use Rattle.meaning.specs.Evenness.{even}
 use Rattle.meaning.specs.Pi.{is_bijective, has_few_components}
-use Rattle.meaning.specs.Calls.{Outcome}
+use Rattle.meaning.specs.Calls.{accepted}
 use Rattle.meaning.specs.Query as meaning
 use Rattle.schema.specs.Decoded.{schema_of, category_of}
 use Rattle.schema.specs.Judged as schema
@@ -11,8 +11,7 @@ use Rattle.mapping.specs.Judged.{Sound}
 use Rattle.instance.specs.Decoded as instance
 use Rattle.pi.specs.declared.components.Components.{Components}
 use Rattle.pi.specs.Components.{AllComponents}
-use Rattle.steps.specs.Answers.{outcome_of}
-use Rattle.steps.specs.Opened.{IsListed}
+use Rattle.steps.specs.Opened.{IsListed, RoomIn}
 use Rattle.query.specs.declared.open.Query.{Query}
 
 abbrev pub query_of : Query → meaning.Query
@@ -26,11 +25,7 @@ query_of q = record {
   H = mapping_of q.third.schema q.h;
 }
 
--- what the seven sheets say together
-abbrev pub opened_of : Query → Outcome meaning.Query
-opened_of q = outcome_of q.refusal (query_of q)
-
--- judged schemas, whatever was lent
+-- judged schemas
 pub record Schemas (q : Query) : Type 0 where
   pub first : schema.Sound q.first
   pub second : IsListed q.second
@@ -44,15 +39,6 @@ pub record Ready (q : Query) : Type 0 where
   pub g : Sound q.second.schema q.third.schema q.g
   pub h : Sound q.third.schema q.fourth.schema q.h
 
-pub record Opens (q : Query) (X : Outcome meaning.Query) : Type 0 where
-  pub says : opened_of q ≡ X
-  pub schemas : Schemas q
-  pub ready : (q.refusal.number ≡ 0 → Ready q)
-
--- what opening gives, whatever was lent
-abbrev pub IsOpened : Query → Type 0
-IsOpened q = Opens q (opened_of q)
-
 -- opened from some sheets
 pub record FromSheets (q : Query) : Type 0 where
   pub s1 : List ℕ
@@ -62,11 +48,19 @@ pub record FromSheets (q : Query) : Type 0 where
   pub f : List ℕ
   pub g : List ℕ
   pub h : List ℕ
-  pub opens : Opens q (meaning.judge_query s1 s2 s3 s4 f g h)
+  pub says : accepted (query_of q) ≡ meaning.judge_query s1 s2 s3 s4 f g h
+  pub ready : Ready q
 
 -- all four schemas have few columns
 abbrev pub have_few_columns : Query → Bool
 have_few_columns q = instance.has_few_columns q.first && instance.has_few_columns q.second.schema && instance.has_few_columns q.third.schema && instance.has_few_columns q.fourth.schema
+
+-- working arrays of these lengths do for the instances of each schema
+pub record RoomsIn (q : Query) (links values : ℕ) : Type 0 where
+  pub first : RoomIn q.first links values
+  pub second : RoomIn q.second.schema links values
+  pub third : RoomIn q.third.schema links values
+  pub fourth : RoomIn q.fourth.schema links values
 
 -- ---- the tests of G and H
 
@@ -78,9 +72,6 @@ narrow q = has_few_components (category_of q.second.schema) (category_of q.third
 
 abbrev pub is_even : Query → Bool
 is_even q = even (category_of q.third.schema) (category_of q.fourth.schema) (query_of q).H
-
-abbrev pub test_number : Query → ℕ
-test_number q = cond (paired q) (cond (narrow q) (cond (is_even q) 0 12) 14) 13
 
 -- what the tests rely on
 pub record Testable (q : Query) (k : Components) : Type 0 where

@@ -1,9 +1,9 @@
 // The query, of lent sheets into a lent tray.
-ghost use Rattle.std.specs.Prelude.{◌≡◌, true};
-ghost use Rattle.meaning.specs.Calls.{sheet_of, in_tray};
+ghost use Rattle.std.specs.Prelude.{◌≡◌};
+ghost use Rattle.meaning.specs.Calls.{accepted, sheet_of, in_tray};
 ghost use Rattle.meaning.specs.Query.{query_tables};
 ghost use Rattle.steps.specs.Answers.{lent_of};
-ghost use Rattle.query.specs.Opened.{opened_of, have_few_columns, IsOpened};
+ghost use Rattle.query.specs.Opened.{query_of, Ready, RoomsIn};
 ghost use Rattle.query.specs.Steps.{answered};
 
 use crate::open::{Query, have_few_columns, open};
@@ -13,15 +13,19 @@ use pi::families::Listing;
 use steps::Written;
 use steps::results::write_migrated;
 
-// The query's tables of a run, written, for schemas with few columns.
-fn query_of_few(q: Query, i: &[u8], tray: &mut [u8]) -> Written
-    requires { IsOpened q × (have_few_columns q ≡ true) }
-    ensures { lent_of result tray.new ≡ in_tray tray.old (sheet_of (answered (opened_of q) i.now)) }
+// The query's tables of a run, written, with working arrays of these lengths.
+fn write_query<const LINKS: usize, const VALUES: usize>(
+    q: &Query,
+    i: &[u8],
+    tray: &mut [u8],
+) -> Written
+    requires { Ready q.now × RoomsIn q.now LINKS VALUES }
+    ensures { lent_of result tray.new ≡ in_tray tray.old (sheet_of (answered (accepted (query_of q.now)) i.now)) }
 {
-    let mut run_links = [0u32; Instance::FEW_LINKS];
-    let mut run_values = [0u32; Instance::FEW_VALUES];
-    let mut links = [0u32; Instance::FEW_LINKS];
-    let mut values = [0u32; Instance::FEW_VALUES];
+    let mut run_links = [0u32; LINKS];
+    let mut run_values = [0u32; VALUES];
+    let mut links = [0u32; LINKS];
+    let mut values = [0u32; VALUES];
     let mut rows = [0u16; Listing::NUMBERS];
     let migrated = query_tables(
         q,
@@ -31,30 +35,8 @@ fn query_of_few(q: Query, i: &[u8], tray: &mut [u8]) -> Written
         &mut links,
         &mut values,
         &mut rows,
-    );
-    write_migrated(migrated, &links, &values, &mut *tray)
-}
-
-// The same for any schemas.
-fn query_of_any(q: Query, i: &[u8], tray: &mut [u8]) -> Written
-    requires { IsOpened q }
-    ensures { lent_of result tray.new ≡ in_tray tray.old (sheet_of (answered (opened_of q) i.now)) }
-{
-    let mut run_links = [0u32; Instance::LINKS];
-    let mut run_values = [0u32; Instance::VALUES];
-    let mut links = [0u32; Instance::LINKS];
-    let mut values = [0u32; Instance::VALUES];
-    let mut rows = [0u16; Listing::NUMBERS];
-    let migrated = query_tables(
-        q,
-        i,
-        &mut run_links,
-        &mut run_values,
-        &mut links,
-        &mut values,
-        &mut rows,
-    );
-    write_migrated(migrated, &links, &values, &mut *tray)
+    )?;
+    write_migrated(&migrated, &links, &values, tray)
 }
 
 // The query: writes the instance of s4 that Sigma along h makes of what Pi along g makes of what Delta along f makes of the run, an instance of s1. The
@@ -73,9 +55,10 @@ pub fn query(
 ) -> Written
     ensures { lent_of result tray.new ≡ in_tray tray.old (sheet_of (query_tables s1.now s2.now s3.now s4.now f.now g.now h.now run.now)) }
 {
-    let q = open(s1, s2, s3, s4, f, g, h);
-    if have_few_columns(q) {
-        return query_of_few(q, run, &mut *tray);
+    let q = open(s1, s2, s3, s4, f, g, h)?;
+    if have_few_columns(&q) {
+        write_query::<{ Instance::FEW_LINKS }, { Instance::FEW_VALUES }>(&q, run, tray)
+    } else {
+        write_query::<{ Instance::LINKS }, { Instance::VALUES }>(&q, run, tray)
     }
-    query_of_any(q, run, &mut *tray)
 }

@@ -21,5 +21,5 @@ pub extern "C" fn migration_query(
 ) -> u64
     ensures { (result, tray.new) ≡ returned (in_tray tray.old (sheet_of (query_tables s1.now s2.now s3.now s4.now f.now g.now h.now run.now))) }
 {
-    written_number(query(s1, s2, s3, s4, f, g, h, run, &mut *tray))
+    written_number(query(s1, s2, s3, s4, f, g, h, run, tray))
 }

@@ -1,20 +1,21 @@
 // The sheets of a query: four schemas, and the mappings F, G and H between them.
-ghost use Rattle.std.specs.Prelude.{◌≡◌};
+ghost use Rattle.std.specs.Prelude.{◌≡◌, true, IfOk};
 ghost use Rattle.meaning.specs.Query as meaning;
-ghost use Rattle.query.specs.Opened.{have_few_columns, test_number, Opens, Testable};
+ghost use Rattle.meaning.specs.Query.{ensure_mappings};
+ghost use Rattle.steps.specs.Answers.{outcome_of, verdict_of};
+ghost use Rattle.query.specs.Opened.{query_of, have_few_columns, Ready, RoomsIn, Testable};
 
 use instance::has_few_columns;
 use mapping::Mapping;
 use pi::components::Components;
 use schema::Schema;
-use steps::Refusal;
-use steps::open::{Category, between, open_mapping, open_schema, uneven};
-use steps::tests::unjoinable;
+use steps::open::{Category, between, check_even, open_mapping, open_schema};
+use steps::tests::check_joinable;
+use steps::{Refusal, Verdict};
 
-// What the seven sheets say, where the refusal's number is 0.
+// What the sheets of four schemas and of the mappings between them say.
 #[derive(Clone, Copy)]
 pub struct Query {
-    pub refusal: Refusal,
     pub first: Schema,
     pub second: Category,
     pub third: Category,
@@ -24,7 +25,7 @@ pub struct Query {
     pub h: Mapping,
 }
 
-// The sheets at places 1 to 7, judged: the schemas, then F, G and H.
+// The sheets at places 1 to 7: the schemas, then F, G and H.
 pub(crate) fn open(
     s1: &[u8],
     s2: &[u8],
@@ -33,57 +34,44 @@ pub(crate) fn open(
     f: &[u8],
     g: &[u8],
     h: &[u8],
-) -> Query
-    ensures { Opens result (meaning.judge_query s1.now s2.now s3.now s4.now f.now g.now h.now) }
+) -> Result<Query, Refusal>
+    ensures says { outcome_of query_of result ≡ meaning.judge_query s1.now s2.now s3.now s4.now f.now g.now h.now }
+    ensures ready { IfOk result Ready }
 {
-    let first = open_schema(s1);
-    let second = open_schema(s2);
-    let third = open_schema(s3);
-    let fourth = open_schema(s4);
-    let along_f = open_mapping(second.schema, first, f);
-    let along_g = open_mapping(second.schema, third, g);
-    let along_h = open_mapping(third.schema, fourth, h);
-    let three = Refusal::first(first.schema.fault, second.schema.fault, third.schema.fault);
-    let refusal = three
-        .or(fourth.schema.fault, 4)
-        .or(along_f.fault, 5)
-        .or(along_g.fault, 6)
-        .or(along_h.fault, 7);
-    let schema = first.schema;
-    Query {
-        refusal: refusal,
-        first: schema,
-        second: second,
-        third: third,
-        fourth: fourth,
+    let first = open_schema(s1, 1)?;
+    let second = open_schema(s2, 2)?;
+    let third = open_schema(s3, 3)?;
+    let fourth = open_schema(s4, 4)?;
+    let along_f = open_mapping(&second.schema, &first, f, 5)?;
+    let along_g = open_mapping(&second.schema, &third, g, 6)?;
+    let along_h = open_mapping(&third.schema, &fourth, h, 7)?;
+    Ok(Query {
+        first: first.schema,
+        second,
+        third,
+        fourth,
         f: along_f,
         g: along_g,
         h: along_h,
-    }
+    })
 }
 
-// Whether all four schemas have few columns.
-pub(crate) fn have_few_columns(q: Query) -> bool
-    ensures { result ≡ have_few_columns q }
+// Whether all four schemas have few columns, for which the shorter working arrays do.
+pub(crate) fn have_few_columns(q: &Query) -> bool
+    ensures says { result ≡ have_few_columns q.now }
+    ensures room { result ≡ true → RoomsIn q.now 2048 2048 }
 {
-    if has_few_columns(q.first) {
-        if has_few_columns(q.second.schema) {
-            if has_few_columns(q.third.schema) {
-                return has_few_columns(q.fourth.schema);
-            }
-        }
-    }
-    false
+    has_few_columns(q.first)
+        && has_few_columns(q.second.schema)
+        && has_few_columns(q.third.schema)
+        && has_few_columns(q.fourth.schema)
 }
 
-// 13 or 14 where there is no Pi along G, 12 where H is not even, else 0.
-pub(crate) fn unanswerable(q: Query, k: Components) -> u8
-    requires { Testable q k }
-    ensures { result ≡ test_number q }
+// Refuses with 13 or 14 where there is no Pi along G, with 12 where H is not even.
+pub(crate) fn check_mappings(q: &Query, k: &Components) -> Verdict
+    requires { Testable q.now k.now }
+    ensures { verdict_of result ≡ ensure_mappings (query_of q.now) }
 {
-    let number = unjoinable(between(q.refusal, q.second, q.third, q.g), k);
-    if number == 0 {
-        return uneven(between(q.refusal, q.third, q.fourth, q.h));
-    }
-    number
+    check_joinable(&between(&q.second, &q.third, &q.g), k)?;
+    check_even(&between(&q.third, &q.fourth, &q.h))
 }

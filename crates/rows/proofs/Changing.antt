@@ -117,7 +117,7 @@ module _ (t : Schema) (A : Sound t) (i : Instance) (L : Limits t i) (c : ℕ) (c
   pub row_put : (row-links row-values links values links' values' : List ℕ) → sum_of (front_of t.graph.nodes i.counts) < 512
       → Joined t.graph.edges t.graph.source i.counts (row_counts c) row-links links links'
       → Joined t.attributes t.node i.counts (row_counts c) row-values values values'
-      → Becomes t (record { fault = 0; counts = after }) links' values' (added (schema_of t) (tables_of t i links values) (row_of t c row-links row-values))
+      → Becomes t (record { counts = after }) links' values' (added (schema_of t) (tables_of t i links values) (row_of t c row-links row-values))
   row_put row-links row-values links values links' values' room u v = record {
     says = rw (edges-count t.graph.edges t.graph.source t.graph.target, tabulate-length t.attributes attribute)
         (tables-same
@@ -128,7 +128,6 @@ module _ (t : Schema) (A : Sound t) (i : Instance) (L : Limits t i) (c : ℕ) (c
       rows = let s = set_sum i.counts c (get_or i.counts c 0 + 1) c-long t.graph.nodes c-in in omega arith;
       long = length-set i.counts c (get_or i.counts c 0 + 1) ∙ L.long;
     };
-    unrefused = refl;
   }
     where
       attribute : ℕ → Attribute
@@ -225,7 +224,7 @@ module _ (t : Schema) (A : Sound t) (i : Instance) (L : Limits t i) (c x : ℕ) 
       → RowTaken t.graph.edges t.graph.source left c x links links'
       → LinksMoved t.graph.edges t.graph.source t.graph.target left c x links' links''
       → RowTaken t.attributes t.node left c x values values'
-      → Becomes t (record { fault = 0; counts = left }) links'' values' (withdrawn (schema_of t) (tables_of t i links values) c x)
+      → Becomes t (record { counts = left }) links'' values' (withdrawn (schema_of t) (tables_of t i links values) c x)
   row-taken links values links' links'' values' u v w = record {
     says = rw (edges-count t.graph.edges t.graph.source t.graph.target, tabulate-length t.attributes attribute_in)
         (tables-same
@@ -239,5 +238,4 @@ module _ (t : Schema) (A : Sound t) (i : Instance) (L : Limits t i) (c x : ℕ) 
       rows = let s = set_sum i.counts c (get_or i.counts c 0 - 1) long t.graph.nodes c-in in omega (arith, L.rows);
       long = length-set i.counts c (get_or i.counts c 0 - 1) ∙ L.long;
     };
-    unrefused = refl;
   }

@@ -1,20 +1,19 @@
 -- A row that stands in no table yet: its counts, what its tests decide, and the rows to which paths lead from it.
-use Prim.Native.Nat.{ℕ, zero, suc, ◌+◌, ◌-◌, ◌*◌, ◌<◌, ◌≤◌}
-use mathlib.Core.Path.{◌≡◌, refl, sym, ap, ap₂, subst, ◌∙◌}
+use Prim.Native.Nat.{ℕ, ◌+◌, ◌*◌, ◌<◌, ◌≤◌}
+use mathlib.Core.Path.{◌≡◌, refl, sym, ap, ap₂, ◌∙◌}
 use mathlib.Core.Bool.{Bool, true, false, cond, not, ◌&&◌}
 use mathlib.Core.List.{List, [], ◌∷◌}
 use native.Mathlib.Omega.{arith}
 use native.Mathlib.Nat.{add-zero, le_trans}
 use borrow.Author.Tests.{ltb-true, eqb-true, eqb-false, eq-eqb, ne_eqb, lt-ltb}
 use lib.Dec.{ltb, eqb}
-use lib.ListN.{length, get_or, take, drop, replicate, length-drop, length-set}
-use lib.Seq.{get_or-set_same, get_or-set_other, get_or-take, get_or-drop, length-take-le}
+use lib.ListN.{length, get_or, replicate, length-set}
+use lib.Seq.{get_or-set_same, get_or-set_other}
 use Rattle.theory.specs.Numbering.{tabulate}
-use Rattle.theory.specs.Instance as theory
 use Rattle.theory.proofs.Numbering.{tabulate-length, tabulate-get_or}
 use Rattle.meaning.specs.Lists.{all, sum_of}
 use Rattle.meaning.specs.Schema.{Attribute, source, target, joins}
-use Rattle.meaning.specs.Sheet.{faulty, sound, judged, on_sheet}
+use Rattle.meaning.specs.Sheet.{Judged, faulty, sound, judged, on_sheet}
 use Rattle.meaning.specs.Formats as formats
 use Rattle.meaning.specs.Formats.{read_tables}
 use Rattle.meaning.specs.Views.{count, link, follow}
@@ -33,13 +32,12 @@ use Rattle.schema.proofs.GraphEdges.{edges-count, source-at, target_at}
 use Rattle.schema.proofs.SoundSchema.{source_in, target-in, home_in, sides-at}
 use Rattle.paths.proofs.TablePaths.{formed}
 use Rattle.instance.specs.declared.Instance.{Instance}
-use Rattle.instance.specs.Decoded.{rows_of, column_of, columns_of, tables_of, Limits, Says}
+use Rattle.instance.specs.Decoded.{rows_of, column_of, columns_of, tables_of, Limits}
 use Rattle.instance.specs.Tested.{link_test}
-use Rattle.instance.specs.Followed.{link_in}
 use Rattle.instance.proofs.Columns.{sum_of-few, sum_of-part, none-stands}
 use Rattle.instance.proofs.Following.{count_at, row-links-test, led}
 use Rattle.instance.proofs.Validity.{tables-shaped, accepted-valid}
-use Rattle.rows.specs.Row.{row_counts, row_with, row_of, judged_row, row_link, follow_row, StaysOn, AcceptedLinks, RowLinked}
+use Rattle.rows.specs.Row.{row_counts, row_alone, row_of, row_link, follow_row, StaysOn, AcceptedLinks, RowLinked}
 
 -- ---- its counts
 module _ (c : ℕ) (h : c < 16) where
@@ -64,8 +62,8 @@ module _ (c : ℕ) (h : c < 16) where
 pub row_counts_lem : (t : Schema) (c : ℕ) → c < 16 → front_of t.graph.nodes (row_counts c) ≡ meaning.one_row (schema_of t) c
 row_counts_lem t c h = tabulate-upto t.graph.nodes (λ d l. row_at c h d)
 
-pub row-limits : (t : Schema) → Sound t → (c fault : ℕ) → c < t.graph.nodes → Limits t (row_with c fault)
-row-limits t A c fault h =
+pub row-limits : (t : Schema) → Sound t → (c : ℕ) → c < t.graph.nodes → Limits t (row_alone c)
+row-limits t A c h =
     let n = A.limits.nodes in
     record { rows = omega (arith, row-sum c (omega arith) t.graph.nodes); long = length-set {A = ℕ} (replicate 16 0) c 1 }
 
@@ -82,48 +80,29 @@ tables-of t A i j links values e =
     (tabulate-same t.graph.edges (λ k h. ap (column_of links (512 * k)) (e (get_or t.graph.source k 0) (source_in t A k h))))
     (tabulate-same t.attributes (λ k h. ap (column_of values (512 * k)) (e (get_or t.node k 0) (home_in t A k h))))
 
--- what was read as a row of table c, by the number of its fault alone
-pub row-judged : (t : Schema) → Sound t → (c : ℕ) → c < t.graph.nodes → (s links values : List ℕ) {i : Instance}
-    → Says t i links values (judged (read_tables (schema_of t) (front_of t.graph.nodes (row_counts c)) s 0)) → judged_row t c i.fault links values ≡ on_sheet (read_row (schema_of t) c) s
-row-judged t A c h s links values {i} u = go (eqb i.fault 0) refl
-  where
-    c-low : c < 16
-    c-low = let n = A.limits.nodes in omega arith
+-- what was read as a row of table c, or the number with which its sheet is sent back
+module _ (t : Schema) (A : Sound t) (c : ℕ) (h : c < t.graph.nodes) (s : List ℕ) where
+  abbrev row-tables : Judged formats.Instance
+  row-tables = judged (read_tables (schema_of t) (front_of t.graph.nodes (row_counts c)) s 0)
 
-    says : cond (eqb i.fault 0) (sound (tables_of t i links values)) (faulty i.fault) ≡ on_sheet (read_row (schema_of t) c) s
-    says = u.says ∙ ap (λ (counts : List ℕ). judged (read_tables (schema_of t) counts s 0)) (row_counts_lem t c c-low)
+  one-row : front_of t.graph.nodes (row_counts c) ≡ meaning.one_row (schema_of t) c
+  one-row = let n = A.limits.nodes in row_counts_lem t c (omega arith)
 
-    same-counts : front_of t.graph.nodes i.counts ≡ front_of t.graph.nodes (row_counts c) → (d : ℕ) → d < t.graph.nodes → get_or i.counts d 0 ≡ get_or (row_counts c) d 0
-    same-counts e d l =
-        sym (tabulate-get_or t.graph.nodes (λ k. get_or i.counts k 0) 0 d l) ∙ ap (λ (xs : List ℕ). get_or xs d 0) e ∙ tabulate-get_or t.graph.nodes (λ k. get_or (row_counts c) k 0) 0 d l
+  row-sheet : row-tables ≡ on_sheet (read_row (schema_of t) c) s
+  row-sheet = ap (λ (counts : List ℕ). judged (read_tables (schema_of t) counts s 0)) one-row
 
-    go : (b : Bool) → eqb i.fault 0 ≡ b → judged_row t c i.fault links values ≡ on_sheet (read_row (schema_of t) c) s
-    go false e = rw e (rw e at says)
-    go true e =
-        let read : sound (tables_of t i links values) ≡ on_sheet (read_row (schema_of t) c) s = rw e at says in
-        rw e (ap sound (sym (tables-of t A i (row_with c 0) links values (same-counts ((row_read (schema_of t) c h s (sym read)).counts ∙ sym (row_counts_lem t c c-low))))) ∙ read)
+  pub row-refused : {k : ℕ} → faulty k ≡ row-tables → faulty k ≡ on_sheet (read_row (schema_of t) c) s
+  row-refused e = e ∙ row-sheet
 
--- ---- the first edge of a path, and the rest
-module _ (edges : List ℕ) where
-  abbrev pub behind_first : List ℕ
-  behind_first = take (length edges - 1) (drop 1 edges)
+  pub row-judged : (i : Instance) (links values : List ℕ) → sound (tables_of t i links values) ≡ row-tables → sound (row_of t c links values) ≡ on_sheet (read_row (schema_of t) c) s
+  row-judged i links values e = ap sound (sym (tables-of t A i (row_alone c) links values (same-counts ((row_read (schema_of t) c h s (sym read)).counts ∙ sym one-row)))) ∙ read
+    where
+      read : sound (tables_of t i links values) ≡ on_sheet (read_row (schema_of t) c) s
+      read = e ∙ row-sheet
 
-  pub behind-length : length behind_first ≡ length edges - 1
-  behind-length = length-take-le (length edges - 1) (drop 1 edges) (omega (arith, length-drop 1 edges))
-
-  pub front-first : (n : ℕ) → (n ≡ 0 → ⊥) → n ≤ length edges → front_of n edges ≡ get_or edges 0 0 ∷ front_of (n - 1) behind_first
-  front-first zero z h = absurd (z refl)
-  front-first (suc n) z h =
-      ap (λ (l : List ℕ). get_or edges 0 0 ∷ l)
-      (tabulate-same n (λ i m. sym (get_or-take (length edges - 1) (drop 1 edges) i 0 (omega arith) ∙ get_or-drop 1 edges i 0 ∙ ap (λ (k : ℕ). get_or edges k 0) (let e : 1 + i ≡ suc i = omega arith in e)))
-      ∙ ap (λ (k : ℕ). front_of k behind_first) (let e : n ≡ suc n - 1 = omega arith in e))
-
-  pub stays-first : (row links : List ℕ) (n : ℕ) → (n ≡ 0 → ⊥) → n ≤ length edges → StaysOn row links (front_of n edges) → StaysOn row links (get_or edges 0 0 ∷ front_of (n - 1) behind_first)
-  stays-first row links n z h = subst (StaysOn row links) (front-first n z h)
-
-  pub follow-first : (row links : List ℕ) (n own : ℕ) → (n ≡ 0 → ⊥) → n ≤ length edges
-      → follow_row row links (front_of n edges) own ≡ theory.follow (link_in links) (front_of (n - 1) behind_first) (row_link row (get_or edges 0 0))
-  follow-first row links n own z h = ap (λ (es : List ℕ). follow_row row links es own) (front-first n z h)
+      same-counts : front_of t.graph.nodes i.counts ≡ front_of t.graph.nodes (row_counts c) → (d : ℕ) → d < t.graph.nodes → get_or i.counts d 0 ≡ get_or (row_counts c) d 0
+      same-counts e d l =
+          sym (tabulate-get_or t.graph.nodes (λ k. get_or i.counts k 0) 0 d l) ∙ ap (λ (xs : List ℕ). get_or xs d 0) e ∙ tabulate-get_or t.graph.nodes (λ k. get_or (row_counts c) k 0) 0 d l
 
 -- ---- 11, equation by equation: both sides of equation k, where it starts at c, lead the row to the same row
 abbrev pub bent_test : Schema → ℕ → List ℕ → List ℕ → ℕ → ℕ → Bool
@@ -171,7 +150,7 @@ module _ (t : Schema) (A : Sound t) (i : Instance) (c : ℕ) (c-in : c < t.graph
   -- 9 was passed
   link-in : (e : ℕ) → e < t.graph.edges → get_or t.graph.source e 0 ≡ c → row_link row e < rows_of t.graph.target i.counts e
   link-in e l s =
-      let all_in = sym (row-links-test t A i [] [] (row_with c 0) row []) ∙ L.links_in in
+      let all_in = sym (row-links-test t A i [] [] (row_alone c) row []) ∙ L.links_in in
       let here = all-at (link_test t.graph.source t.graph.target (row_counts c) i.counts row) t.graph.edges (λ k. k) all_in e l in
       let first : get_or row (512 * e + 0) 0 < rows_of t.graph.target i.counts e = ltb-true _ _ (all-at (λ x. ltb x (rows_of t.graph.target i.counts e)) (rows_of t.graph.source (row_counts c) e) (λ k. get_or row (512 * e + k) 0) here 0 (rw (own_row t.graph.source e s) (omega arith))) in
       rw (add-zero (512 * e)) at first
@@ -188,7 +167,7 @@ module _ (t : Schema) (A : Sound t) (i : Instance) (c : ℕ) (c-in : c < t.graph
   is_row : IsRow (schema_of t) c R
   is_row = record {
     counts = row_counts_lem t c c-low;
-    shaped = tables-shaped A (row_with c 0) row [];
+    shaped = tables-shaped A (row_alone c) row [];
     links = λ e m s.
         let l : e < t.graph.edges = rw (edges-count t.graph.edges t.graph.source t.graph.target) at m in
         let q = sym (source-at t.graph.edges t.graph.source t.graph.target e l) ∙ s in

@@ -1,16 +1,15 @@
 -- Columns put behind others in a working array.
-use Prim.Native.Nat.{ℕ, ◌+◌, ◌-◌, ◌*◌, ◌<◌, ◌≤◌}
-use mathlib.Core.Path.{◌≡◌, refl, sym, ap, ap₂, ◌∙◌}
-use mathlib.Core.Bool.{Bool, true, false, cond}
+use Prim.Native.Nat.{ℕ, ◌+◌, ◌-◌, ◌*◌, ◌<◌}
+use mathlib.Core.Path.{◌≡◌, ap₂, ◌∙◌}
+use mathlib.Core.Bool.{cond}
 use mathlib.Core.List.{List, ◌++◌}
 use native.Mathlib.Omega.{arith}
-use borrow.Author.Tests.{ltb-true, ltb-false, lt-ltb, le-ltb}
+use borrow.Author.Tests.{lt-ltb, le-ltb}
 use lib.Dec.{ltb}
 use lib.ListN.{get_or}
 use Rattle.meaning.proofs.Tabulate.{tabulate-same, tabulate-plus}
 use Rattle.instance.specs.Decoded.{column_of}
-use Rattle.instance.specs.Stored.{Copied}
-use Rattle.rows.proofs.Places.{Worked, worked-more}
+use Rattle.rows.proofs.Places.{Worked}
 
 module _ (a b : ℕ → ℕ) (list l : List ℕ) where
   -- number x of column k: one of the a k numbers of l, or behind them one of the list
@@ -21,20 +20,6 @@ module _ (a b : ℕ → ℕ) (list l : List ℕ) where
   Joining k r = Worked (λ j. a j + b j) joined_at k l r
 
   module _ {k : ℕ} {r : List ℕ} (u : Joining k r) where
-    pub joining-more : {q : List ℕ} → ((j : ℕ) → j < k + 1 → a j + b j ≤ 512) → Copied list (512 * k) (b k) (512 * k + a k) r q → Joining (k + 1) q
-    joining-more {q} few v =
-        worked-more u (λ j h. few j (omega arith)) (512 * k + a k) (b k) (omega arith) (let f = few k (omega arith) in omega arith) v.other v.long
-        (λ x h. here x h (ltb x (a k)) refl)
-      where
-        here : (x : ℕ) → x < a k + b k → (t : Bool) → ltb x (a k) ≡ t → get_or q (512 * k + x) 0 ≡ joined_at k x
-        here x h true e =
-            let m = ltb-true x (a k) e in
-            v.other (512 * k + x) (λ i s z. let y : 512 * k + x ≡ 512 * k + a k + i = z in omega arith) ∙ u.rest (512 * k + x) (omega arith) ∙ rw e
-        here x h false e =
-            let m = ltb-false x (a k) e in
-            let place : 512 * k + a k + (x - a k) ≡ 512 * k + x = omega arith in
-            ap (λ (p : ℕ). get_or q p 0) (sym place) ∙ v.each (x - a k) (omega arith) ∙ rw e
-
     pub joining-done : (j : ℕ) → j < k → column_of r (512 * j) (a j + b j) ≡ column_of l (512 * j) (a j) ++ column_of list (512 * j) (b j)
     joining-done j h =
         tabulate-plus (a j) (b j) (λ i. get_or r (512 * j + i) 0)

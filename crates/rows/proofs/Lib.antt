@@ -5,4 +5,3 @@ pub mod Holding
 pub mod TakingOut
 pub mod FromRow
 pub mod Changing
-pub mod Judging

@@ -9,4 +9,3 @@ use Rattle.instance.specs.Decoded.{tables_of, Limits}
 pub record Becomes (t : Schema) (r : Instance) (links values : List ℕ) (J : formats.Instance) : Type 0 where
   pub says : tables_of t r links values ≡ J
   pub limits : Limits t r
-  pub unrefused : r.fault ≡ 0

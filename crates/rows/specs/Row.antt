@@ -1,13 +1,12 @@
 -- A row that stands in no table yet, in working arrays: its link along edge e at 512 * e, its value of attribute a at 512 * a.
 use Rattle.std.specs.Prelude.{ℕ, ◌*◌, ◌≤◌, ◌<◌, ◌≡◌, true, List, [], ◌∷◌, length, get_or, set, replicate}
 use Rattle.theory.specs.Instance.{follow}
-use Rattle.meaning.specs.Sheet.{Judged}
 use Rattle.meaning.specs.Formats as formats
 use Rattle.meaning.specs.Rows.{row_links_in_range}
 use Rattle.schema.specs.declared.Schema.{Schema}
 use Rattle.schema.specs.Decoded.{schema_of}
 use Rattle.instance.specs.declared.Instance.{Instance}
-use Rattle.instance.specs.Decoded.{tables_of, judged_instance, Limits}
+use Rattle.instance.specs.Decoded.{tables_of, Limits}
 use Rattle.instance.specs.Tested.{Accepted}
 use Rattle.instance.specs.Followed.{link_in, Stays}
 
@@ -15,16 +14,12 @@ use Rattle.instance.specs.Followed.{link_in, Stays}
 abbrev pub row_counts : ℕ → List ℕ
 row_counts c = set (replicate 16 0) c 1
 
--- that row, with the number of its fault
-abbrev pub row_with : ℕ → ℕ → Instance
-row_with c fault = record { fault = fault; counts = row_counts c }
+-- that row
+abbrev pub row_alone : ℕ → Instance
+row_alone c = record { counts = row_counts c }
 
 abbrev pub row_of : Schema → ℕ → List ℕ → List ℕ → formats.Instance
-row_of t c links values = tables_of t (row_with c 0) links values
-
--- the number with which the row's sheet is sent back, or what it says
-abbrev pub judged_row : Schema → ℕ → ℕ → List ℕ → List ℕ → Judged formats.Instance
-judged_row t c fault links values = judged_instance t (row_with c fault) links values
+row_of t c links values = tables_of t (row_alone c) links values
 
 -- the row to which edge e links the row
 abbrev pub row_link : List ℕ → ℕ → ℕ

@@ -20,18 +20,10 @@ fn join_columns(n: usize, home: &[u8], counts: &[u32], rows: &[u32], list: &[u32
     requires { Joins n home.now counts.now rows.now list.now out.old }
     ensures { Joined n home.now counts.now rows.now list.now out.old out.new }
 {
-    let mut k = 0;
-    while k < n {
+    for k in 0..n {
         let place = Instance::ROWS * k;
         let more = rows_of(home, rows, k);
-        copy_column(
-            list,
-            place,
-            more,
-            &mut *out,
-            place + rows_of(home, counts, k),
-        );
-        k += 1;
+        copy_column(list, place, more, out, place + rows_of(home, counts, k));
     }
 }
 
@@ -54,19 +46,9 @@ pub fn put_row(
     let counts = run.counts;
     let row = one_row(table);
     let rows = row.counts;
-    join_columns(graph.edges, &source, &counts, &rows, row_links, &mut *links);
-    join_columns(
-        schema.attributes,
-        &node,
-        &counts,
-        &rows,
-        row_values,
-        &mut *values,
-    );
+    join_columns(graph.edges, &source, &counts, &rows, row_links, links);
+    join_columns(schema.attributes, &node, &counts, &rows, row_values, values);
     let mut after = run.counts;
-    after[table] = after[table] + 1;
-    Instance {
-        fault: 0,
-        counts: after,
-    }
+    after[table] += 1;
+    Instance { counts: after }
 }

@@ -3,39 +3,44 @@ ghost use Rattle.std.specs.Prelude.{◌≡◌, not, [], ◌*◌, ◌≤◌, ◌<
 ghost use Rattle.meaning.specs.Sheet.{on_sheet};
 ghost use Rattle.meaning.specs.Rows as meaning;
 ghost use Rattle.schema.specs.Decoded.{path_of, schema_of, front_of};
+ghost use Rattle.schema.specs.Faults.{judged_of};
 ghost use Rattle.schema.specs.Judged.{Sound};
 ghost use Rattle.instance.specs.Decoded.{tables_of, Limits, RoomFor};
-ghost use Rattle.rows.specs.Row.{row_with, row_of, judged_row, follow_row, StaysOn, AcceptedLinks, RowLinked};
+ghost use Rattle.rows.specs.Row.{row_alone, row_of, follow_row, StaysOn, AcceptedLinks, RowLinked};
 
 use instance::Instance;
-use instance::decode::{decode_tables, wide};
+use instance::decode::decode_tables;
 use instance::follow::follow;
 use instance::kinds::kinds;
 use instance::range::{columns_below, values_in_range};
-use schema::{Path, Schema, faults, numbers};
+use schema::faults::Fault;
+use schema::{Path, Schema};
 
 // One row of a table, and none of the others.
 pub fn one_row(table: usize) -> Instance
     requires { table < 16 }
-    ensures { result ≡ row_with table 0 }
+    ensures { result ≡ row_alone table }
 {
-    let mut counts = [0u32; Schema::NODES];
+    let mut counts = [0; Schema::NODES];
     counts[table] = 1;
-    Instance {
-        fault: 0,
-        counts: counts,
-    }
+    Instance { counts }
 }
 
-// Reads the sheet of a row: 0, or the number with which it is sent back before any test of its sense.
-fn read_row(schema: Schema, table: usize, s: &[u8], links: &mut [u32], values: &mut [u32]) -> u8
+// Reads the sheet of a row, or says why it is sent back before any test of its sense.
+fn read_row(
+    schema: Schema,
+    table: usize,
+    s: &[u8],
+    links: &mut [u32],
+    values: &mut [u32],
+) -> Result<(), Fault>
     requires { Sound schema × (table < schema.graph.nodes) × RoomFor schema links.old values.old }
-    ensures { judged_row schema table result links.new values.new ≡ on_sheet (meaning.read_row (schema_of schema) table) s.now }
+    ensures { judged_of (λ _. row_of schema table links.new values.new) result ≡ on_sheet (meaning.read_row (schema_of schema) table) s.now }
 {
     let row = one_row(table);
     let rows = row.counts;
-    let read = decode_tables(schema, s, 0, rows, &mut *links, &mut *values);
-    read.fault
+    decode_tables(schema, s, 0, rows, links, values)?;
+    Ok(())
 }
 
 // Refusal 9 (dangling), of the links of a row.
@@ -60,13 +65,8 @@ fn follow_row(row_links: &[u32], links: &[u32], edges: &[u8], n: usize, own: usi
     if n == 0 {
         return own;
     }
-    let first = numbers::wide(edges[0]);
-    follow(
-        links,
-        &edges[1..],
-        n - 1,
-        wide(row_links[Instance::ROWS * first]),
-    )
+    let first = row_links[Instance::ROWS * usize::from(edges[0])];
+    follow(links, &edges[1..], n - 1, first as usize)
 }
 
 // Whether two paths lead the row to different rows.
@@ -76,8 +76,8 @@ fn bent(row_links: &[u32], links: &[u32], a: Path, b: Path, own: usize) -> bool
 {
     let left = a.edges;
     let right = b.edges;
-    let x = follow_row(row_links, links, &left, a.length as usize, own);
-    x != follow_row(row_links, links, &right, b.length as usize, own)
+    let x = follow_row(row_links, links, &left, usize::from(a.length), own);
+    x != follow_row(row_links, links, &right, usize::from(b.length), own)
 }
 
 // Refusal 11 (bent row), of a row that comes at the end of a table.
@@ -91,23 +91,18 @@ fn obeys_equations(
     requires { Sound schema × (table < schema.graph.nodes) × AcceptedLinks schema run links.now × RowLinked schema run table row_links.now }
     ensures { result ≡ meaning.row_obeys_equations (schema_of schema) (tables_of schema run links.now []) table (row_of schema table row_links.now []) }
 {
-    let own = wide(run.counts[table]);
-    let n = schema.equations;
-    let mut k = 0;
-    while k < n {
+    let own = run.counts[table] as usize;
+    for k in 0..schema.equations {
         let a = schema.left[k];
         let b = schema.right[k];
-        if numbers::wide(a.start) == table {
-            if bent(row_links, links, a, b, own) {
-                return false;
-            }
+        if usize::from(a.start) == table && bent(row_links, links, a, b, own) {
+            return false;
         }
-        k += 1;
     }
     true
 }
 
-// The sheet of a row judged, for a run in working arrays: 0, or the first number that applies to it.
+// The sheet of a row judged, for a run in working arrays: the first reason to send it back, if there is one.
 pub fn judge_row(
     schema: Schema,
     run: Instance,
@@ -116,22 +111,19 @@ pub fn judge_row(
     links: &[u32],
     row_links: &mut [u32],
     row_values: &mut [u32],
-) -> u8
+) -> Result<(), Fault>
     requires { Sound schema × (table < schema.graph.nodes) × AcceptedLinks schema run links.now × RoomFor schema row_links.old row_values.old }
-    ensures { judged_row schema table result row_links.new row_values.new ≡ meaning.judge_row (schema_of schema) (tables_of schema run links.now []) table s.now }
+    ensures { judged_of (λ _. row_of schema table row_links.new row_values.new) result ≡ meaning.judge_row (schema_of schema) (tables_of schema run links.now []) table s.now }
 {
-    let read = read_row(schema, table, s, &mut *row_links, &mut *row_values);
-    if read == 0 {
-        if links_in_range(schema, run, table, &*row_links) {
-            if values_in_range(schema, one_row(table), &*row_values, kinds()) {
-                if obeys_equations(schema, run, table, links, &*row_links) {
-                    return 0;
-                }
-                return faults::BENT_ROW;
-            }
-            return faults::OFF_SCALE;
-        }
-        return faults::DANGLING;
+    read_row(schema, table, s, row_links, row_values)?;
+    if !links_in_range(schema, run, table, row_links) {
+        return Err(Fault::Dangling);
     }
-    read
+    if !values_in_range(schema, one_row(table), row_values, kinds()) {
+        return Err(Fault::OffScale);
+    }
+    if !obeys_equations(schema, run, table, links, row_links) {
+        return Err(Fault::BentRow);
+    }
+    Ok(())
 }

@@ -9,22 +9,15 @@ ghost use Rattle.rows.specs.Columns.{TakenOut, OneMore, RowTaken, MovedDown, Lin
 ghost use Rattle.rows.specs.Changed.{Becomes};
 
 use instance::Instance;
-use instance::decode::{rows_of, wide};
-use schema::{Schema, numbers};
+use instance::decode::rows_of;
+use schema::Schema;
 
 // Whether a number stands among n from base on.
 fn stands(l: &[u32], base: usize, n: usize, x: usize) -> bool
     requires { base + n ≤ length l.now }
     ensures { result ≡ any (eqb x) (column_of l.now base n) }
 {
-    let mut i = 0;
-    while i < n {
-        if wide(l[base + i]) == x {
-            return true;
-        }
-        i += 1;
-    }
-    false
+    l[base..base + n].iter().any(|&y| y as usize == x)
 }
 
 // Refusal 19 (still held).
@@ -36,17 +29,10 @@ pub fn is_held(schema: Schema, run: Instance, table: usize, x: usize, links: &[u
     let source = graph.source;
     let target = graph.target;
     let counts = run.counts;
-    let n = graph.edges;
-    let mut e = 0;
-    while e < n {
-        if numbers::wide(target[e]) == table {
-            if stands(links, Instance::ROWS * e, rows_of(&source, &counts, e), x) {
-                return true;
-            }
-        }
-        e += 1;
-    }
-    false
+    (0..graph.edges).any(|e| {
+        usize::from(target[e]) == table
+            && stands(links, Instance::ROWS * e, rows_of(&source, &counts, e), x)
+    })
 }
 
 // Takes place x out of n + 1 numbers from base on: later ones move down by one.
@@ -54,11 +40,7 @@ fn take_out(l: &mut [u32], base: usize, n: usize, x: usize)
     requires { (x ≤ n) × (base + n + 1 ≤ length l.old) }
     ensures { TakenOut l.old base n x l.new }
 {
-    let mut i = x;
-    while i < n {
-        l[base + i] = l[base + i + 1];
-        i += 1;
-    }
+    l.copy_within(base + x + 1..base + n + 1, base + x);
 }
 
 // Takes place x out of each of n columns that is one of a table. Counts has the rows that are left.
@@ -66,12 +48,10 @@ fn take_row_out(n: usize, home: &[u8], counts: &[u32], table: usize, x: usize, l
     requires { OneMore n home.now counts.now table x l.old }
     ensures { RowTaken n home.now counts.now table x l.old l.new }
 {
-    let mut k = 0;
-    while k < n {
-        if numbers::wide(home[k]) == table {
-            take_out(&mut *l, Instance::ROWS * k, rows_of(home, counts, k), x);
+    for k in 0..n {
+        if usize::from(home[k]) == table {
+            take_out(l, Instance::ROWS * k, rows_of(home, counts, k), x);
         }
-        k += 1;
     }
 }
 
@@ -79,10 +59,7 @@ fn take_row_out(n: usize, home: &[u8], counts: &[u32], table: usize, x: usize, l
 fn moved_down(r: u32, x: usize) -> u32
     ensures { result ≡ meaning.moved_down x r }
 {
-    if wide(r) > x {
-        return r - 1;
-    }
-    r
+    if r as usize > x { r - 1 } else { r }
 }
 
 // Moves the numbers above x, among n from base on, down by one.
@@ -90,10 +67,8 @@ fn move_down(l: &mut [u32], base: usize, n: usize, x: usize)
     requires { base + n ≤ length l.old }
     ensures { MovedDown l.old base n x l.new }
 {
-    let mut i = 0;
-    while i < n {
-        l[base + i] = moved_down(l[base + i], x);
-        i += 1;
+    for r in &mut l[base..base + n] {
+        *r = moved_down(*r, x);
     }
 }
 
@@ -110,17 +85,10 @@ fn move_links_down(
     requires { Columns n source.now counts.now × (n ≤ length target.now) × (512 * n ≤ length links.old) }
     ensures { LinksMoved n source.now target.now counts.now table x links.old links.new }
 {
-    let mut e = 0;
-    while e < n {
-        if numbers::wide(target[e]) == table {
-            move_down(
-                &mut *links,
-                Instance::ROWS * e,
-                rows_of(source, counts, e),
-                x,
-            );
+    for e in 0..n {
+        if usize::from(target[e]) == table {
+            move_down(links, Instance::ROWS * e, rows_of(source, counts, e), x);
         }
-        e += 1;
     }
 }
 
@@ -141,12 +109,9 @@ pub fn take_row(
     let target = graph.target;
     let node = schema.node;
     let mut after = run.counts;
-    after[table] = after[table] - 1;
-    take_row_out(graph.edges, &source, &after, table, x, &mut *links);
-    move_links_down(graph.edges, &source, &target, &after, table, x, &mut *links);
-    take_row_out(schema.attributes, &node, &after, table, x, &mut *values);
-    Instance {
-        fault: 0,
-        counts: after,
-    }
+    after[table] -= 1;
+    take_row_out(graph.edges, &source, &after, table, x, links);
+    move_links_down(graph.edges, &source, &target, &after, table, x, links);
+    take_row_out(schema.attributes, &node, &after, table, x, values);
+    Instance { counts: after }
 }

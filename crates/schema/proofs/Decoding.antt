@@ -1,18 +1,18 @@
--- Laws of what is decoded: a sheet sent back, columns side by side, the limits that the counts are held to, and equations read one by one.
-use Prim.Native.Nat.{ℕ, suc, ◌+◌, ◌*◌, ◌<◌, ◌≤◌}
+-- Laws of what is decoded: columns side by side, the limits that the counts are held to, and equations read one by one.
+use Prim.Native.Nat.{ℕ, ◌+◌, ◌*◌, ◌<◌, ◌≤◌}
 use mathlib.Core.Path.{◌≡◌, refl, sym, ap, ◌∙◌}
 use mathlib.Core.Bool.{true, false, ◌&&◌}
 use mathlib.Core.List.{List}
 use native.Mathlib.Omega.{arith}
 use borrow.Author.Count.{below_none}
-use borrow.Author.Tests.{leb-true, ne_eqb}
+use borrow.Author.Tests.{leb-true}
 use lib.ListN.{length, get_or, set, replicate, length-set, length-replicate}
 use lib.Dec.{leb}
 use lib.Seq.{get_or-set_same, get_or-set_other}
 use Rattle.bits.specs.Field as bits
 use Rattle.bits.specs.Field.{tail_ok}
 use Rattle.theory.specs.Numbering.{tabulate}
-use Rattle.meaning.specs.Sheet.{fails, reads, Judged, faulty, judged}
+use Rattle.meaning.specs.Sheet.{fails, faulty, sound, judged}
 use Rattle.meaning.specs.Schema as meaning
 use Rattle.meaning.specs.Formats.{Counts, counts_in_limits, read_equation}
 use Rattle.meaning.proofs.Formats.{read_body-fails, read_body-tail, read_body-read}
@@ -21,16 +21,10 @@ use Rattle.meaning.proofs.Tabulate.{tabulate-same, tabulate-store, filled, and_b
 use Rattle.schema.specs.declared.Path.{Path}
 use Rattle.schema.specs.declared.Schema.{Schema}
 use Rattle.schema.specs.declared.decode.EquationRead.{EquationRead}
-use Rattle.schema.specs.Decoded.{Column, EquationTaken, Short, TablesTaken, Decoded, empty_schema, no_path, equation_of, equations_of, on_body}
+use Rattle.schema.specs.Decoded.{Column, EquationTaken, Short, TablesTaken, InLimits, Limits, no_path, equation_of, equations_of, schema_of, on_body}
 
 pub no_bool : false ≡ true → ⊥
 no_bool q = let z : ◌≡◌ {A = ℕ} 0 1 = cc in omega arith
-
-pub faulty-decoded : {t : Schema} {k : ℕ} {J : Judged meaning.Schema} → t ≡ empty_schema (suc k) → J ≡ faulty (suc k) → Decoded t J
-faulty-decoded {k} e h = rw (e, h) (record {
-  says = rw (ne_eqb (suc k) 0 (λ q. omega arith));
-  limits = record { nodes = omega arith; edges = omega arith; attributes = omega arith; equations = omega arith; left = record { each = below_none _ }; right = record { each = below_none _ } };
-})
 
 pub column-start : (s : List ℕ) (at step width size : ℕ) → Column s at step width size 0 (replicate size 0)
 column-start s at step width size = record { each = below_none _; long = length-replicate {A = ℕ} size 0 }
@@ -46,12 +40,6 @@ module _ {A : Type 0} (f : ℕ → ℕ → A) {s : List ℕ} {p q size n : ℕ} 
   pub pairs : q ≡ p + 4 → Column s p 8 4 size n a → Column s q 8 4 size n b →
       tabulate n (λ i. f (get_or a i 0) (get_or b i 0)) ≡ tabulate n (λ i. f (bits.field s (p + 8 * i) 4) (bits.field s (p + 8 * i + 4) 4))
   pairs e x y = tabulate-same n (λ i l. ap (λ (u : ℕ). f u (get_or b i 0)) (x.each i l) ∙ ap (f (bits.field s (p + 8 * i) 4)) (y.each i l ∙ ap (λ (u : ℕ). bits.field s u 4) (omega arith)))
-
-pub record InLimits (c : Counts) : Type 0 where
-  pub nodes : c.nodes ≤ 16
-  pub edges : c.edges ≤ 32
-  pub attributes : c.attributes ≤ 16
-  pub equations : c.equations ≤ 32
 
 pub limits : (c : Counts) → counts_in_limits c ≡ true → InLimits c
 limits c h =
@@ -89,12 +77,11 @@ kept-start {c} {s} {t} k h = record {
 
 module _ {c : Counts} {s : List ℕ} {t : Schema} {i p : ℕ} (k : Kept c s t i p) where
   module _ {r : EquationRead} (l : i < c.equations) (e : EquationTaken s p r) where
-    pub kept_more : c.equations ≤ 32 → r.cut ≡ false →
-        Kept c s (record { fault = t.fault; graph = t.graph; attributes = t.attributes; node = t.node; kind = t.kind; equations = t.equations; left = set t.left i r.left; right = set t.right i r.right }) (i + 1) r.next
-    kept_more few whole = record {
+    pub kept_more : c.equations ≤ 32 →
+        Kept c s (record { graph = t.graph; attributes = t.attributes; node = t.node; kind = t.kind; equations = t.equations; left = set t.left i r.left; right = set t.right i r.right }) (i + 1) r.next
+    kept_more few = record {
       room = k.room;
       tables = record {
-        fault = k.tables.fault;
         graph = k.tables.graph;
         attributes = k.tables.attributes;
         node = k.tables.node;
@@ -109,39 +96,40 @@ module _ {c : Counts} {s : List ℕ} {t : Schema} {i p : ℕ} (k : Kept c s t i 
           (λ j h. ap (λ (w : Path). equation_of w (get_or (set t.right i r.right) j no_path)) (get_or-set_other t.left i j _ _ (λ q. let z : j ≡ i = q in omega arith))
           ∙ ap (equation_of (get_or t.left j no_path)) (get_or-set_other t.right i j _ _ (λ q. let z : j ≡ i = q in omega arith)))
           (ap (λ (w : Path). equation_of w (get_or (set t.right i r.right) i no_path)) (get_or-set_same t.left i _ _ left-long) ∙ ap (equation_of r.left) (get_or-set_same t.right i _ _ right-long)))
-          (under-step k.read_so_far l (sym says));
+          (under-step k.read_so_far l e.says);
       short = (record { each = filled (λ _ w. w.length ≤ 15) no_path t.left i left-long e.short.0 k.short.0.each }, record { each = filled (λ _ w. w.length ≤ 15) no_path t.right i right-long e.short.1 k.short.1.each });
     }
       where
-        says : reads (equation_of r.left r.right) r.next ≡ read_equation s p
-        says = rw whole at e.says
-
         left-long : i < length t.left
         left-long = omega (arith, k.tables.long.0)
 
         right-long : i < length t.right
         right-long = omega (arith, k.tables.long.1)
 
-    pub kept-cut : r.cut ≡ true → on_body c s ≡ faulty 1
-    kept-cut cut = let says : fails 1 ≡ read_equation s p = rw cut at e.says in ap judged (read_body-fails s 22 c k.room (under-cut k.read_so_far l (sym says)))
+  pub kept-cut : i < c.equations → read_equation s p ≡ fails 1 → faulty 1 ≡ on_body c s
+  kept-cut l e = sym (ap judged (read_body-fails s 22 c k.room (under-cut k.read_so_far l e)))
 
   module _ (l : c.equations ≤ i) where
-    pub kept-tail : tail_ok s p ≡ false → on_body c s ≡ faulty 2
-    kept-tail h = ap judged (read_body-tail s 22 c k.room (under-done k.read_so_far l) h)
+    pub kept-tail : tail_ok s p ≡ false → faulty 2 ≡ on_body c s
+    kept-tail h = sym (ap judged (read_body-tail s 22 c k.room (under-done k.read_so_far l) h))
 
-    pub kept_read : InLimits c → tail_ok s p ≡ true → Decoded t (on_body c s)
-    kept_read f h =
+    all_read : i ≡ t.equations
+    all_read = omega (arith, k.some, k.tables.equations)
+
+    pub kept-read : tail_ok s p ≡ true → sound (schema_of t) ≡ on_body c s
+    kept-read h =
         let g = k.tables.graph in
-        let e : i ≡ t.equations = omega (arith, k.some, k.tables.equations) in
+        rw (g.nodes, g.says, k.tables.attributes, ← all_read, pairs {A = meaning.Attribute} (λ x y. record { node = x; kind = y }) refl k.tables.node k.tables.kind)
+        (sym (ap judged (read_body-read s 22 c k.room (under-done k.read_so_far l) h)))
+
+    pub kept-limits : InLimits c → Limits t
+    kept-limits f =
+        let g = k.tables.graph in
         record {
-          says = rw (k.tables.fault, g.nodes, g.says, k.tables.attributes, ← e, pairs {A = meaning.Attribute} (λ x y. record { node = x; kind = y }) refl k.tables.node k.tables.kind)
-              (sym (ap judged (read_body-read s 22 c k.room (under-done k.read_so_far l) h)));
-          limits = record {
-            nodes = omega (arith, g.nodes, f.nodes);
-            edges = omega (arith, g.edges, f.edges);
-            attributes = omega (arith, k.tables.attributes, f.attributes);
-            equations = omega (arith, k.tables.equations, f.equations);
-            left = rw e at k.short.0;
-            right = rw e at k.short.1;
-          };
+          nodes = omega (arith, g.nodes, f.nodes);
+          edges = omega (arith, g.edges, f.edges);
+          attributes = omega (arith, k.tables.attributes, f.attributes);
+          equations = omega (arith, k.tables.equations, f.equations);
+          left = rw all_read at k.short.0;
+          right = rw all_read at k.short.1;
         }

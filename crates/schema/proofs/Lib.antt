@@ -6,3 +6,4 @@ pub mod NodeHeights
 pub mod Tallies
 pub mod Judging
 pub mod SoundSchema
+pub mod Chains

@@ -13,7 +13,6 @@ use Rattle.meaning.specs.Lists.{upto, any, sum_of, concat_map}
 use Rattle.meaning.specs.Schema.{Graph, Path, source, target, leaving, edge_lists, paths_of_length, all_paths, has_path_of, has_loop}
 use Rattle.meaning.proofs.PathCounts.{sum_edges, total, total-more, sum_edges-skip, sum_edges-here, edge_lists-more, level, levels}
 use Rattle.meaning.proofs.PathLevels.{followed, paths_of_length-longer}
-use Rattle.meaning.proofs.Tabulate.{filled}
 use Rattle.schema.specs.declared.Graph as declared
 use Rattle.schema.specs.Decoded.{graph_of}
 use Rattle.schema.specs.Counted.{Fit, row, Few, Blank, First, Next}
@@ -96,21 +95,6 @@ zeros (suc n) (suc i) = zeros n i
 
 pub blank-start : (n : ℕ) → Blank (replicate n 0) 0
 blank-start n = record { each = λ i l. zeros n i }
-
--- ---- the row of length 0: the first n nodes have their trivial path
-pub record Begun (nodes n : ℕ) (l : List ℕ) : Type 0 where
-  pub some : n ≤ nodes
-  pub long : length l ≡ 272
-  pub each : (i : ℕ) → i < n → get_or l i 0 ≡ 1
-  pub blank : Blank l n
-
-pub begun_more : {nodes n : ℕ} {l : List ℕ} → nodes ≤ 16 → n < nodes → Begun nodes n l → Begun nodes (n + 1) (set l n 1)
-begun_more {nodes} {n} {l} f less b = record {
-  some = omega arith;
-  long = length-set l n 1 ∙ b.long;
-  each = filled (λ (_ x : ℕ). x ≡ 1) 0 l n (omega (arith, b.long)) refl b.each;
-  blank = record { each = λ i h. get_or-set_other l n i 1 0 (λ q. let z : i ≡ n = q in omega arith) ∙ b.blank.each i (omega arith) };
-}
 
 -- ---- the row of the next length: the first e edges have handed their targets' numbers on
 pub record Handed (g : declared.Graph) (t : List ℕ) (at e : ℕ) (l : List ℕ) : Type 0 where

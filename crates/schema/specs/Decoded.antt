@@ -1,8 +1,8 @@
 -- What the decoded structs mean, and what the decoders promise of them.
-use Rattle.std.specs.Prelude.{ℕ, ◌+◌, ◌*◌, ◌^◌, ◌≤◌, ◌<◌, ◌≡◌, Bool, cond, List, [], length, get_or, replicate, eqb}
+use Rattle.std.specs.Prelude.{ℕ, ◌+◌, ◌*◌, ◌^◌, ◌≤◌, ◌<◌, ◌≡◌, Bool, cond, List, [], length, get_or, replicate, Option, MatchOption}
 use Rattle.bits.specs.Field as bits
 use Rattle.theory.specs.Numbering.{tabulate}
-use Rattle.meaning.specs.Sheet.{Read, fails, reads, Judged, faulty, sound, judged}
+use Rattle.meaning.specs.Sheet.{Read, fails, reads, Judged, judged}
 use Rattle.meaning.specs.Schema as meaning
 use Rattle.meaning.specs.Category.{Category, listed_category}
 use Rattle.meaning.specs.Formats as formats
@@ -55,24 +55,8 @@ schema_of t = record {
 abbrev pub category_of : Schema → Category
 category_of t = listed_category (schema_of t)
 
--- the number with which the sheet is sent back, or what it says
-abbrev pub judged_schema : Schema → Judged meaning.Schema
-judged_schema t = cond (eqb t.fault 0) (sound (schema_of t)) (faulty t.fault)
-
 abbrev pub empty_path : Path
 empty_path = record { start = 0; length = 0; edges = replicate 16 0 }
-
-abbrev pub empty_schema : ℕ → Schema
-empty_schema number = record {
-  fault = number;
-  graph = record { nodes = 0; edges = 0; source = replicate 32 0; target = replicate 32 0 };
-  attributes = 0;
-  node = replicate 16 0;
-  kind = replicate 16 0;
-  equations = 0;
-  left = replicate 32 empty_path;
-  right = replicate 32 empty_path;
-}
 
 -- ---- fields of one width
 
@@ -99,17 +83,27 @@ module _ {A : Type 0} where
   abbrev pub read_of : Bool → A → ℕ → Read A
   read_of cut a next = cond cut (fails 1) (reads a next)
 
+-- a path that was read
 pub record PathTaken (s : List ℕ) (at : ℕ) (r : PathRead) : Type 0 where
-  pub says : read_of r.cut (path_of r.path) r.next ≡ read_path s at
+  pub says : read_path s at ≡ reads (path_of r.path) r.next
   pub inside : r.next ≤ 8 * length s
   pub near : r.next ≤ at + 83
   pub short : r.path.length ≤ 15
 
+-- that path, if the bits do not end before it does
+abbrev pub PathFound : List ℕ → ℕ → Option PathRead → Type 0
+PathFound s at r = MatchOption r (read_path s at ≡ fails 1) (PathTaken s at)
+
+-- an equation that was read
 pub record EquationTaken (s : List ℕ) (at : ℕ) (r : EquationRead) : Type 0 where
-  pub says : read_of r.cut (equation_of r.left r.right) r.next ≡ read_equation s at
+  pub says : read_equation s at ≡ reads (equation_of r.left r.right) r.next
   pub inside : r.next ≤ 8 * length s
   pub near : r.next ≤ at + 166
   pub short : (r.left.length ≤ 15) × (r.right.length ≤ 15)
+
+-- that equation, if the bits do not end before it does
+abbrev pub EquationFound : List ℕ → ℕ → Option EquationRead → Type 0
+EquationFound s at r = MatchOption r (read_equation s at ≡ fails 1) (EquationTaken s at)
 
 -- the first n paths of an array have at most 15 edges
 pub record Short (n : ℕ) (l : List Path) : Type 0 where
@@ -125,9 +119,15 @@ pub record GraphTaken (s : List ℕ) (n m : ℕ) (g : Graph) : Type 0 where
 abbrev pub counts_of : Counts → formats.Counts
 counts_of c = record { nodes = c.nodes; edges = c.edges; attributes = c.attributes; equations = c.equations }
 
+-- the counts are within their limits
+pub record InLimits (c : formats.Counts) : Type 0 where
+  pub nodes : c.nodes ≤ 16
+  pub edges : c.edges ≤ 32
+  pub attributes : c.attributes ≤ 16
+  pub equations : c.equations ≤ 32
+
 -- all but the equations, for which there is room
 pub record TablesTaken (c : formats.Counts) (s : List ℕ) (t : Schema) : Type 0 where
-  pub fault : t.fault ≡ 0
   pub graph : GraphTaken s c.nodes c.edges t.graph
   pub attributes : t.attributes ≡ c.attributes
   pub node : Column s (22 + 8 * c.edges) 8 4 16 c.attributes t.node
@@ -146,8 +146,3 @@ pub record Limits (t : Schema) : Type 0 where
   pub equations : t.equations ≤ 32
   pub left : Short t.equations t.left
   pub right : Short t.equations t.right
-
--- a sheet read, before any test of its sense
-pub record Decoded (t : Schema) (J : Judged meaning.Schema) : Type 0 where
-  pub says : judged_schema t ≡ J
-  pub limits : Limits t

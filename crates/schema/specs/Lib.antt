@@ -1,4 +1,5 @@
--- What the contracts of schemas say: decoded structs, judges, counts of paths, heights.
+-- What the contracts of schemas say: faults, decoded structs, judges, counts of paths, heights.
+pub mod Faults
 pub mod Decoded
 pub mod Counted
 pub mod Heights

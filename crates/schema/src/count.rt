@@ -3,7 +3,6 @@ ghost use Rattle.std.specs.Prelude.{◌≡◌, min, ◌+◌, ◌≤◌};
 ghost use Rattle.meaning.proofs.PathCounts.{total};
 ghost use Rattle.schema.specs.Counted.{Fit, row, Few, Blank, First, Next, Counted};
 
-use crate::numbers::{index, wide};
 use crate::{Graph, Schema};
 
 // Stands for any number of paths above the limit.
@@ -12,10 +11,11 @@ const MANY: u16 = 257;
 // Room for a row of numbers for each length from 0 to the number of nodes: how many paths of that length start at each node.
 const TALLY: usize = Schema::NODES * (Schema::NODES + 1);
 
+// A number of paths, with one for any above the limit.
 fn capped(x: u16) -> u16
     ensures { result ≡ min 257 x }
 {
-    if x < MANY { x } else { MANY }
+    x.min(MANY)
 }
 
 // The row of length 0: at each node the trivial path starts.
@@ -23,12 +23,7 @@ fn first_row(nodes: usize, tally: &mut [u16; TALLY])
     requires { (nodes ≤ 16) × Blank tally.old 0 }
     ensures { First nodes tally.new }
 {
-    let all: &mut [u16] = tally;
-    let mut n = 0;
-    while n < nodes {
-        all[n] = 1;
-        n += 1;
-    }
+    tally[..nodes].fill(1);
 }
 
 // The row behind the one at a position, for the next length: an edge hands its target's number to its source.
@@ -36,14 +31,10 @@ fn next_row(g: Graph, tally: &mut [u16; TALLY], at: usize)
     requires { (Fit g × Few g.nodes tally.old at) × ((at + 32 ≤ 272) × Blank tally.old (at + 16)) }
     ensures { Next g tally.old at tally.new }
 {
-    let edges = g.edges;
-    let all: &mut [u16] = tally;
-    let mut e = 0;
-    while e < edges {
-        let node = at + Schema::NODES + wide(g.source[e]);
-        let behind = at + wide(g.target[e]);
-        all[node] = capped(all[node] + all[behind]);
-        e += 1;
+    for e in 0..g.edges {
+        let node = at + Schema::NODES + usize::from(g.source[e]);
+        let behind = at + usize::from(g.target[e]);
+        tally[node] = capped(tally[node] + tally[behind]);
     }
 }
 
@@ -53,10 +44,8 @@ fn sum_nodes(nodes: usize, tally: &[u16; TALLY], at: usize) -> u16
     ensures { result ≡ min 257 (total (row tally.now at) nodes) }
 {
     let mut sum = 0u16;
-    let mut n = 0;
-    while n < nodes {
-        sum = capped(sum + tally[at + n]);
-        n += 1;
+    for paths in &tally[at..at + nodes] {
+        sum = capped(sum + *paths);
     }
     sum
 }
@@ -77,21 +66,19 @@ pub fn count_paths(g: Graph) -> Count
     let mut tally = [0u16; TALLY];
     first_row(nodes, &mut tally);
     let mut paths = 0u16;
-    let mut k = 0;
-    while k < nodes {
+    for k in 0..nodes {
         let sum = sum_nodes(nodes, &tally, Schema::NODES * k);
         if sum == 0 {
             return Count {
-                paths: index(paths),
+                paths: usize::from(paths),
                 looped: false,
             };
         }
         paths = capped(paths + sum);
         next_row(g, &mut tally, Schema::NODES * k);
-        k += 1;
     }
     Count {
-        paths: index(paths),
-        looped: sum_nodes(nodes, &tally, Schema::NODES * k) > 0,
+        paths: usize::from(paths),
+        looped: sum_nodes(nodes, &tally, Schema::NODES * nodes) > 0,
     }
 }

@@ -5,18 +5,20 @@ pub mod count;
 pub mod decode;
 pub mod faults;
 pub mod heights;
-pub mod numbers;
 pub mod well_formed;
 
-ghost use Rattle.std.specs.Prelude.{◌≡◌, ◌≤◌};
+ghost use Rattle.std.specs.Prelude.{◌≡◌, ◌≤◌, IfOk};
 ghost use Rattle.meaning.specs.Judge.{test_schema, judge_schema, judge_path};
-ghost use Rattle.schema.specs.Decoded.{empty_path, empty_schema, graph_of, schema_of, Limits};
-ghost use Rattle.schema.specs.Judged.{Tested, Says, PathSays};
+ghost use Rattle.schema.specs.Decoded.{empty_path, graph_of, path_of, schema_of, Limits};
+ghost use Rattle.schema.specs.Faults.{judged_of};
+ghost use Rattle.schema.specs.Judged.{Sound, SoundPath};
 
 use bits::reader::{ends_at, lacks_at};
 use decode::Counts;
+use faults::Fault;
 
 // Nodes (tables) and edges (links): all that paths depend on.
+// Kept: two arrays and not one of edges, since what goes over columns is lent the edges' sources as it is lent the attributes' nodes: as bytes side by side.
 #[derive(Clone, Copy)]
 pub struct Graph {
     pub nodes: usize,
@@ -26,6 +28,7 @@ pub struct Graph {
 }
 
 // A path: a start node and edges that join up.
+// Kept: a length beside its array, since no memory is asked for, and arrays of paths are filled with one, which a vector of bounded length can't be.
 #[derive(Clone, Copy)]
 pub struct Path {
     pub start: u8,
@@ -49,10 +52,9 @@ impl Path {
     }
 }
 
-// What a schema sheet says; fault is 0, or the number with which the sheet is sent back.
+// What a schema sheet says.
 #[derive(Clone, Copy)]
 pub struct Schema {
-    pub fault: u8,
     pub graph: Graph,
     pub attributes: usize,
     pub node: [u8; Schema::ATTRIBUTES],
@@ -72,114 +74,61 @@ impl Schema {
     pub const EQUATIONS: usize = 32;
 
     pub const PATHS: usize = 256;
-
-    // A sheet sent back with a number.
-    pub fn faulty(number: u8) -> Schema
-        ensures { result ≡ empty_schema number }
-    {
-        let none = Path::empty();
-        let ends = [0u8; Schema::EDGES];
-        let columns = [0u8; Schema::ATTRIBUTES];
-        let sides = [none; Schema::EQUATIONS];
-        let graph = Graph {
-            nodes: 0,
-            edges: 0,
-            source: ends,
-            target: ends,
-        };
-        Schema {
-            fault: number,
-            graph: graph,
-            attributes: 0,
-            node: columns,
-            kind: columns,
-            equations: 0,
-            left: sides,
-            right: sides,
-        }
-    }
 }
 
-// Tests 4, 5 and 6: the first number that applies, or 0. Where there are too many paths to go over, a loop shows in their counts.
-fn fault_of(t: Schema) -> u8
+// Tests 4, 5 and 6, of which the first that fails counts. Where there are too many paths to go over, a loop shows in their counts.
+fn test_schema(t: Schema) -> Result<(), Fault>
     requires { Limits t }
-    ensures { Tested t result (test_schema (schema_of t)) }
+    ensures says { judged_of (λ _. schema_of t) result ≡ test_schema (schema_of t) }
+    ensures sound { IfOk result (λ _. Sound t) }
 {
-    if well_formed::is_well_formed(t) {
-        let g = t.graph;
-        let count = count::count_paths(g);
-        if count.paths > Schema::PATHS {
-            if count.looped {
-                return faults::RING;
-            }
-            return faults::CROWD;
-        }
-        if heights::has_loop(g) {
-            return faults::RING;
-        }
-        return 0;
+    if !well_formed::is_well_formed(t) {
+        return Err(Fault::Stray);
     }
-    faults::STRAY
+    let g = t.graph;
+    let count = count::count_paths(g);
+    if count.paths > Schema::PATHS {
+        return Err(if count.looped {
+            Fault::Ring
+        } else {
+            Fault::Crowd
+        });
+    }
+    if heights::has_loop(g) {
+        return Err(Fault::Ring);
+    }
+    Ok(())
 }
 
-// A schema sheet judged: what it says, or the first number that applies to it.
-pub fn judge_schema(s: &[u8]) -> Schema
-    ensures { Says result (judge_schema s.now) }
+// A schema sheet judged: what it says, or the first fault that it has.
+pub fn judge_schema(s: &[u8]) -> Result<Schema, Fault>
+    ensures says { judged_of schema_of result ≡ judge_schema s.now }
+    ensures sound { IfOk result Sound }
 {
     if lacks_at(s, 0, Counts::BITS) {
-        return Schema::faulty(faults::CUT);
+        return Err(Fault::Cut);
     }
     let c = decode::read_counts(s);
-    if decode::in_limits(c) {
-        let t = decode::decode_body(s, c);
-        let early = t.fault;
-        if early == 0 {
-            let fault = fault_of(t);
-            if fault == 0 {
-                return t;
-            }
-            return Schema::faulty(fault);
-        }
-        return Schema::faulty(early);
+    if !decode::in_limits(c) {
+        return Err(Fault::Count);
     }
-    Schema::faulty(faults::COUNT)
+    let t = decode::decode_body(s, c)?;
+    test_schema(t)?;
+    Ok(t)
 }
 
-// A path sheet judged: the path, where fault is 0, or the number with which the sheet is sent back.
-#[derive(Clone, Copy)]
-pub struct JudgedPath {
-    pub fault: u8,
-    pub path: Path,
-}
-
-pub fn judge_path(g: Graph, s: &[u8]) -> JudgedPath
+// A path sheet judged: the path, or the first fault of the sheet.
+pub fn judge_path(g: Graph, s: &[u8]) -> Result<Path, Fault>
     requires { g.edges ≤ 32 }
-    ensures { PathSays (graph_of g) result (judge_path (graph_of g) s.now) }
+    ensures says { judged_of path_of result ≡ judge_path (graph_of g) s.now }
+    ensures sound { IfOk result (SoundPath g) }
 {
-    let r = decode::read_path(s, 0);
-    let path = r.path;
-    if r.cut {
-        return JudgedPath {
-            fault: faults::CUT,
-            path: path,
-        };
+    let read = decode::read_path(s, 0).ok_or(Fault::Cut)?;
+    if !ends_at(s, read.next) {
+        return Err(Fault::Tail);
     }
-    let next = r.next;
-    if ends_at(s, next) {
-        let end = well_formed::follow(g, path);
-        if end.joins {
-            return JudgedPath {
-                fault: 0,
-                path: path,
-            };
-        }
-        return JudgedPath {
-            fault: faults::STRAY,
-            path: path,
-        };
+    if well_formed::follow(g, read.path).is_none() {
+        return Err(Fault::Stray);
     }
-    JudgedPath {
-        fault: faults::TAIL,
-        path: path,
-    }
+    Ok(read.path)
 }

@@ -7,7 +7,7 @@ use native.Mathlib.Omega.{arith}
 use native.Mathlib.Nat.{not-suc-le-zero}
 use native.Mathlib.Numerals.{add-one}
 use native.Mathlib.Decide.{ℕ_discrete}
-use borrow.Author.Count.{below_none, below_more}
+use borrow.Author.Count.{below_more}
 use borrow.Author.Tests.{eq-eqb, ne_eqb}
 use lib.ListN.{get_or}
 use Rattle.meaning.specs.Lists.{upto, filter, head_or, sum_of}
@@ -56,9 +56,6 @@ module _ (node counts : List ℕ) (d : ℕ) where
       omega (arith, before-sum n)
 
 module _ (node counts : List ℕ) (d c : ℕ) where
-  pub joined-next : (base rows : ℕ) → rows ≡ get_or counts c 0 → get_or node c 0 ≡ d → base + joined_before node counts d c + rows ≡ base + joined_before node counts d (c + 1)
-  joined-next base rows r e = omega (arith, before_more node counts d c e)
-
   -- the rows of a node over d are among at most 512
   pub joined-room : (n : ℕ) → sum_of (front_of n counts) ≤ 512 → c < n → get_or node c 0 ≡ d → joined_before node counts d c + get_or counts c 0 ≤ 512
   joined-room n few l e = omega (arith, before-within node counts d n c l e, before-sum node counts d n)
@@ -67,19 +64,20 @@ module _ (node counts : List ℕ) (d c : ℕ) where
   joined-few few = omega (arith, before-sum node counts d c)
 
 -- ---- node by node
-pub joined-none : (node counts : List ℕ) (d : ℕ) (g : ℕ → ℕ → ℕ) (base : ℕ) (l : List ℕ) → JoinedStored node counts d 0 g base l l
-joined-none node counts d g base l = record { each = below_none _; below = λ k h. refl; long = refl }
-
 module _ {node counts : List ℕ} {d : ℕ} {g : ℕ → ℕ → ℕ} {base : ℕ} {l r : List ℕ} {c : ℕ} (u : JoinedStored node counts d c g base l r) where
-  pub joined-more : {q : List ℕ} → get_or node c 0 ≡ d → Stored (g c) (get_or counts c 0) (base + joined_before node counts d c) r q → JoinedStored node counts d (c + 1) g base l q
-  joined-more {q} e v = record {
-    each = below_more (λ k. get_or node k 0 ≡ d → (x : ℕ) → x < get_or counts k 0 → get_or q (base + joined_before node counts d k + x) 0 ≡ g k x) c
-        (λ k m i x h. v.below (base + joined_before node counts d k + x) (omega (arith, before-within node counts d c k m i)) ∙ u.each k m i x h)
-        (λ i. v.each);
-    below = λ k m. v.below k (omega arith) ∙ u.below k m;
-    long = v.long ∙ u.long;
-  }
+  -- the rows of node c, stored from the place where they begin
+  pub joined-turn : {p : ℕ} {q : List ℕ} → p ≡ base + joined_before node counts d c → get_or node c 0 ≡ d → Stored (g c) (get_or counts c 0) p r q → JoinedStored node counts d (c + 1) g base l q
+  joined-turn {q = q} n e w =
+      let v : Stored (g c) (get_or counts c 0) (base + joined_before node counts d c) r q = rw n at w in
+      record {
+        each = below_more (λ k. get_or node k 0 ≡ d → (x : ℕ) → x < get_or counts k 0 → get_or q (base + joined_before node counts d k + x) 0 ≡ g k x) c
+            (λ k m i x h. v.below (base + joined_before node counts d k + x) (omega (arith, before-within node counts d c k m i)) ∙ u.each k m i x h)
+            (λ i. v.each);
+        below = λ k m. v.below k (omega arith) ∙ u.below k m;
+        long = v.long ∙ u.long;
+      }
 
+  -- no rows, of a node that is not over d
   pub joined-skip : (get_or node c 0 ≡ d → ⊥) → JoinedStored node counts d (c + 1) g base l r
   joined-skip e = record {
     each = below_more (λ k. get_or node k 0 ≡ d → (x : ℕ) → x < get_or counts k 0 → get_or r (base + joined_before node counts d k + x) 0 ≡ g k x) c u.each (λ i. absurd (e i));
@@ -87,13 +85,7 @@ module _ {node counts : List ℕ} {d : ℕ} {g : ℕ → ℕ → ℕ} {base : �
     long = u.long;
   }
 
-  pub joined-done : {n : ℕ} → n ≤ c → JoinedStored node counts d n g base l r
-  joined-done h = record { each = λ k m. u.each k (omega arith); below = u.below; long = u.long }
-
 -- ---- column by column
-pub columns-none : (node counts home : List ℕ) (n : ℕ) (g : ℕ → ℕ → ℕ → ℕ) (l : List ℕ) → JoinedColumns node counts home n 0 g l l
-columns-none node counts home n g l = record { each = below_none _; long = refl }
-
 module _ {node counts home : List ℕ} {n k : ℕ} {g : ℕ → ℕ → ℕ → ℕ} {l r : List ℕ} (u : JoinedColumns node counts home n k g l r) where
   pub columns-more : {q : List ℕ} → sum_of (front_of n counts) ≤ 512 → JoinedStored node counts (get_or home k 0) n (g k) (512 * k) r q → JoinedColumns node counts home n (k + 1) g l q
   columns-more {q} few v = record {
@@ -104,9 +96,6 @@ module _ {node counts home : List ℕ} {n k : ℕ} {g : ℕ → ℕ → ℕ → 
     long = v.long ∙ u.long;
   }
 
-  pub columns-done : {m : ℕ} → m ≤ k → JoinedColumns node counts home n m g l r
-  columns-done h = record { each = λ j i. u.each j (omega arith); long = u.long }
-
 -- ---- the first of the numbers below n that pass a test, or 0
 pub head_or-low : (n b : ℕ) (f : ℕ → Bool) → n ≤ b → 0 < b → head_or 0 (filter f (upto n)) < b
 head_or-low n b f h z = go (filter f (upto n)) (λ x m. of-upto n (filter-of f (upto n) m).0)
@@ -114,7 +103,3 @@ head_or-low n b f h z = go (filter f (upto n)) (λ x m. of-upto n (filter-of f (
     go : (l : List ℕ) → ((x : ℕ) → Memᴰ x l → x < n) → head_or 0 l < b
     go [] k = z
     go (x ∷ l) k = omega (arith, k x (Memᴰ.head refl))
-
--- ---- a column at another name of its place
-pub stored_at : {g : ℕ → ℕ} {m n a b : ℕ} {l r : List ℕ} → m ≡ n → a ≡ b → Stored g m a l r → Stored g n b l r
-stored_at e f u = rw (← e, ← f) u

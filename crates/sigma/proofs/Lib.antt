@@ -1,4 +1,3 @@
--- Laws of joined lists, of rows followed along lifts, and of Sigma as a whole.
+-- Laws of joined lists and of Sigma as a whole.
 pub mod Joining
-pub mod Lifting
 pub mod Pushing

@@ -270,5 +270,5 @@ module _ {s t : Schema} {source-paths target-paths : Paths} {f : Mapping} {run :
 -- ---- the whole
 pub pushed : {s t : Schema} {f : Mapping} {run r : Instance} {links values followed copied : List ℕ} → front_of t.graph.nodes r.counts ≡ (sigma_of s t f run links values).counts
     → columns_of t.graph.edges (rows_of t.graph.source r.counts) followed ≡ (sigma_of s t f run links values).links
-    → columns_of t.attributes (rows_of t.node r.counts) copied ≡ (sigma_of s t f run links values).values → length r.counts ≡ 16 → r.fault ≡ 0 → Pushed s t f run links values r followed copied
-pushed a b c long sound = record { says = rw (a, b, c); long = long; unrefused = sound }
+    → columns_of t.attributes (rows_of t.node r.counts) copied ≡ (sigma_of s t f run links values).values → length r.counts ≡ 16 → Pushed s t f run links values r followed copied
+pushed a b c long = record { says = rw (a, b, c); long = long }

@@ -6,6 +6,10 @@ use Rattle.mapping.specs.declared.Mapping.{Mapping}
 use Rattle.lifts.specs.Even.{is_over}
 use Rattle.lifts.specs.Lifts.{joined_before}
 
+-- P holds of each of n nodes over d
+abbrev pub EachOver : List ℕ → ℕ → ℕ → (ℕ → Type 0) → Type 0
+EachOver node d n P = (c : ℕ) → c < n → get_or node c 0 ≡ d → P c
+
 -- the rows of the nodes below n over d stand in r from base on; g c has those of c
 pub record JoinedStored (node counts : List ℕ) (d n : ℕ) (g : ℕ → ℕ → ℕ) (base : ℕ) (l r : List ℕ) : Type 0 where
   pub each : (c : ℕ) → c < n → get_or node c 0 ≡ d → (x : ℕ) → x < get_or counts c 0 → get_or r (base + joined_before node counts d c + x) 0 ≡ g c x

@@ -20,7 +20,6 @@ use Rattle.sigma.specs.Lifted.{LiftsLead}
 -- r has the counts of the joined lists
 pub record Counted (s t : Schema) (f : Mapping) (run r : Instance) : Type 0 where
   pub counts : Counts t.graph.nodes (λ d. joined_before f.node run.counts d s.graph.nodes) r.counts
-  pub unrefused : r.fault ≡ 0
 
 -- the lifts of each edge of T can be followed
 pub record AllLead (s t : Schema) (p : Paths) (f : Mapping) (run : Instance) (lifts links : List ℕ) : Type 0 where
@@ -48,4 +47,3 @@ sigma_of s t f run links values = sigma (category_of s) (category_of t) (mapping
 pub record Pushed (s t : Schema) (f : Mapping) (run : Instance) (links values : List ℕ) (r : Instance) (followed copied : List ℕ) : Type 0 where
   pub says : tables_of t r followed copied ≡ sigma_of s t f run links values
   pub long : length r.counts ≡ 16
-  pub unrefused : r.fault ≡ 0

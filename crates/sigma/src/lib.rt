@@ -23,17 +23,11 @@ pub fn sigma_counts(s: Schema, t: Schema, f: Mapping, run: Instance) -> Instance
     ensures { Counted s t f run result }
 {
     let n = s.graph.nodes;
-    let m = t.graph.nodes;
-    let mut counts = [0u32; Schema::NODES];
-    let mut d = 0;
-    while d < m {
-        counts[d] = rows_before(&f.node, &run.counts, n, d as u8) as u32;
-        d += 1;
+    let mut counts = [0; Schema::NODES];
+    for (d, count) in counts[..t.graph.nodes].iter_mut().enumerate() {
+        *count = rows_before(&f.node, &run.counts, n, d as u8) as u32;
     }
-    Instance {
-        fault: 0,
-        counts: counts,
-    }
+    Instance { counts }
 }
 
 // Its values: for each attribute of T the columns over it.
@@ -41,12 +35,8 @@ fn sigma_values(s: Schema, t: Schema, f: Mapping, run: Instance, values: &[u32],
     requires { (s.graph.nodes ≤ 16) × (s.attributes ≤ 16) × (t.attributes ≤ 16) × Limits s run × (512 * s.attributes ≤ length values.now) × AllOver s t f × (512 * t.attributes ≤ length out.old) }
     ensures { JoinedColumns f.node run.counts t.node s.graph.nodes t.attributes (value_over s f values.now) out.old out.new }
 {
-    let n = t.attributes;
-    let mut b = 0;
-    while b < n {
-        let d = t.node[b];
-        value_column(s, f, run, values, b, d, &mut *out);
-        b += 1;
+    for (b, &d) in t.node[..t.attributes].iter().enumerate() {
+        value_column(s, f, run, values, b, d, out);
     }
 }
 
@@ -65,12 +55,8 @@ fn sigma_links(
     ensures { JoinedColumns f.node run.counts t.graph.source s.graph.nodes t.graph.edges (λ e c. lift_row source_paths f.node run.counts links.now (get_or lifts.now (16 * e + c) 0)) out.old out.new }
 {
     let graph = t.graph;
-    let n = graph.edges;
-    let mut e = 0;
-    while e < n {
-        let d = graph.source[e];
-        link_column(s, source_paths, f, run, lifts, links, e, d, &mut *out);
-        e += 1;
+    for (e, &d) in graph.source[..graph.edges].iter().enumerate() {
+        link_column(s, source_paths, f, run, lifts, links, e, d, out);
     }
 }
 
@@ -92,7 +78,7 @@ pub fn sigma(
 {
     let lifts = edge_lifts(s, t, source_paths, target_paths, f);
     let pushed = sigma_counts(s, t, f, run);
-    sigma_links(s, t, source_paths, f, run, &lifts, links, &mut *followed);
-    sigma_values(s, t, f, run, values, &mut *copied);
+    sigma_links(s, t, source_paths, f, run, &lifts, links, followed);
+    sigma_values(s, t, f, run, values, copied);
     pushed
 }

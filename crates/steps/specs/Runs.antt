@@ -10,16 +10,11 @@ use Rattle.meaning.specs.Category.{listed_category}
 use Rattle.meaning.specs.Changes as changes
 use Rattle.schema.specs.Decoded.{category_of}
 use Rattle.mapping.specs.Decoded.{mapping_of}
-use Rattle.mapping.specs.Judged.{Schemas}
 use Rattle.instance.specs.declared.Instance.{Instance}
-use Rattle.instance.specs.Decoded.{tables_of, Limits}
-use Rattle.instance.specs.Tested.{Accepted}
+use Rattle.instance.specs.Decoded.{tables_of}
 use Rattle.sigma.specs.Pushed.{Pushable}
-use Rattle.steps.specs.declared.Refusal.{Refusal}
 use Rattle.steps.specs.declared.open.Opened.{Opened}
-use Rattle.steps.specs.declared.pushing.Run.{Run}
-use Rattle.steps.specs.Answers.{outcome_of}
-use Rattle.steps.specs.Opened.{migration_of, Ready}
+use Rattle.steps.specs.Opened.{migration_of, SoundTables}
 
 -- a mapping with its schemas, and a run
 pub record RunInput : Type 0 where
@@ -50,14 +45,6 @@ evenly_pushed X = do
 abbrev pub run_input_of : Opened → Instance → List ℕ → List ℕ → RunInput
 run_input_of o run links values = record { m = migration_of o; run = tables_of o.source run links values }
 
--- what the four sheets say, where the refusal is none
-pub record RunSays (o : Opened) (r : Refusal) (run : Instance) (links values : List ℕ) (X : Outcome RunInput) : Type 0 where
-  pub says : outcome_of r (run_input_of o run links values) ≡ X
-  pub schemas : Schemas o.source o.target o.source_paths o.target_paths
-  pub limits : Limits o.source run
-  pub ready : (r.number ≡ 0 → Ready o)
-  pub accepted : (r.number ≡ 0 → Accepted o.source run links values)
-
 -- what Sigma relies on
 abbrev pub PushableRun : Opened → Instance → List ℕ → List ℕ → Type 0
 PushableRun o = Pushable o.source o.target o.source_paths o.target_paths o.mapping
@@ -65,11 +52,7 @@ PushableRun o = Pushable o.source o.target o.source_paths o.target_paths o.mappi
 abbrev pub run_of : Opened → Instance → List ℕ → List ℕ → changes.Run
 run_of o run links values = record { m = migration_of o; tables = tables_of o.source run links values }
 
--- what the four sheets say and the mapping is, where the refusal is none
-pub record RunOpens (o : Opened) (r : Run) (links values : List ℕ) (X : Outcome changes.Run) : Type 0 where
-  pub says : outcome_of r.refusal (run_of o r.tables links values) ≡ X
-  pub schemas : Schemas o.source o.target o.source_paths o.target_paths
-  pub limits : Limits o.source r.tables
-  pub ready : (r.refusal.number ≡ 0 → Ready o)
-  pub accepted : (r.refusal.number ≡ 0 → Accepted o.source r.tables links values)
-  pub is-even : (r.refusal.number ≡ 0 → even (category_of o.source) (category_of o.target) (mapping_of o.source o.mapping) ≡ true)
+-- a run with an even mapping
+pub record EvenRun (o : Opened) (run : Instance) (links values : List ℕ) : Type 0 where
+  pub tables : SoundTables o.source run links values
+  pub is-even : even (category_of o.source) (category_of o.target) (mapping_of o.source o.mapping) ≡ true

@@ -9,69 +9,53 @@ pub mod results;
 pub mod tests;
 
 ghost use Rattle.std.specs.Prelude.{◌≡◌};
-ghost use Rattle.steps.specs.Answers.{or_next, first_refusal};
+ghost use Rattle.meaning.specs.Calls.{ensure};
+ghost use Rattle.schema.specs.Faults.{number_of};
+ghost use Rattle.steps.specs.Answers.{verdict_of};
 
-// Why a call refuses: a number from 1 to 19 and the place of the sheet that it is about, counted from 1, or 0 for all sheets together and for a change itself.
-// Inside the library the number 0 is no refusal.
-#[derive(Clone, Copy)]
+use schema::faults::Fault;
+
+// Why a call refuses: a fault's number from 1 to 19, and the place of the sheet that it is about, counted from 1, or 0 for all sheets together and for a change
+// itself.
+// Kept: a number, since a refusal is what a caller is told, and `Demand3` of `migration` speaks of answers with any number.
+#[derive(Clone, Copy, Debug, PartialEq, Eq)]
 pub struct Refusal {
     pub number: u8,
     pub place: u8,
 }
 
 impl Refusal {
-    // A mapping that is not even.
-    pub const UNEVEN: u8 = 12;
-
-    // An attribute mapping that is no bijection.
-    pub const UNPAIRED: u8 = 13;
-
-    // A table of Pi with too many components.
-    pub const WIDE: u8 = 14;
-
-    // A migrated instance with too many rows.
-    pub const OVERFULL: u8 = 15;
-
-    // A tray with too few bytes for the result.
-    pub const SMALL_TRAY: u8 = 16;
-
-    // A list that is not a matching.
-    pub const NO_MATCH: u8 = 17;
-
-    // A table or a row that does not exist.
-    pub const ABSENT: u8 = 18;
-
-    // A row to which another row links.
-    pub const HELD: u8 = 19;
-
-    // The refusal of the first of three sheets, at places 1, 2 and 3, that has one.
-    pub fn first(a: u8, b: u8, c: u8) -> Refusal
-        ensures { result ≡ first_refusal a b c }
+    // The refusal of the sheet at a place.
+    pub fn at(fault: Fault, place: u8) -> Refusal
+        ensures { result ≡ record { number = number_of fault; place = place } }
     {
-        let one = Refusal {
-            number: a,
-            place: 1,
-        };
-        one.or(b, 2).or(c, 3)
+        Refusal {
+            number: fault.number(),
+            place,
+        }
     }
 
-    // This refusal or, where it is none, the next.
-    pub fn or(self, number: u8, place: u8) -> Refusal
-        ensures { result ≡ or_next self (record { number = number; place = place }) }
+    // A refusal of all sheets together, or of a change itself.
+    pub fn of_all(fault: Fault) -> Refusal
+        ensures { result ≡ record { number = number_of fault; place = 0 } }
     {
-        if self.number == 0 {
-            return Refusal {
-                number: number,
-                place: place,
-            };
-        }
-        self
+        Refusal::at(fault, 0)
     }
 }
 
+// The answer of a check.
+pub type Verdict = Result<(), Refusal>;
+
 // The answer of a call that writes its result into a lent tray: the result's byte length.
-#[derive(Clone, Copy)]
-pub enum Written {
-    Bytes(usize),
-    Refused(Refusal),
+pub type Written = Result<usize, Refusal>;
+
+// Refuses with a fault, at place 0, where a test of all sheets together fails.
+pub fn ensure(test: bool, fault: Fault) -> Verdict
+    ensures { verdict_of result ≡ ensure test (number_of fault) }
+{
+    if test {
+        Ok(())
+    } else {
+        Err(Refusal::of_all(fault))
+    }
 }

@@ -1,79 +1,61 @@
 // A run with an even mapping along which it is pushed; Sigma of decoded tables, and its size.
+ghost use Rattle.std.specs.Prelude.{◌≡◌, IfOk};
 ghost use Rattle.instance.specs.Decoded.{RoomFor};
-ghost use Rattle.steps.specs.Migrated.{Migrates};
-ghost use Rattle.steps.specs.Opened.{opened_of, IsOpened};
+ghost use Rattle.meaning.specs.Calls.{accepted};
 ghost use Rattle.meaning.specs.Changes.{even_run};
-ghost use Rattle.steps.specs.Runs.{run_input_of, pushed_run, PushableRun, RunOpens};
+ghost use Rattle.steps.specs.Answers.{outcome_of};
+ghost use Rattle.steps.specs.Migrated.{Migrates};
+ghost use Rattle.steps.specs.Opened.{migration_of, Ready};
+ghost use Rattle.steps.specs.Runs.{run_input_of, run_of, pushed_run, EvenRun, PushableRun};
 
 use crate::Refusal;
-use crate::open::{Opened, uneven};
-use crate::results::{Migrated, overfull};
-use instance::{Instance, judge_instance};
+use crate::open::{Opened, check_even, open_instance};
+use crate::results::{Migrated, check_rows};
+use instance::Instance;
 
-// What the sheets of a mapping and of a run say, where the refusal is none: the mapping is even, and the run's links and values stand in working arrays.
-#[derive(Clone, Copy)]
-pub struct Run {
-    pub refusal: Refusal,
-    pub tables: Instance,
-}
-
-// The sheet at place 4, judged after those of S, T and the mapping, and the mapping's evenness.
-pub fn open_run(opened: Opened, i: &[u8], links: &mut [u32], values: &mut [u32]) -> Run
-    requires { IsOpened opened × RoomFor opened.source links.old values.old }
-    ensures { RunOpens opened result links.new values.new (even_run (opened_of opened) i.now) }
+// The sheet at place 4, a run that the mapping, which is even, pushes: the run's links and values stand in working arrays.
+pub fn open_run(
+    opened: &Opened,
+    i: &[u8],
+    links: &mut [u32],
+    values: &mut [u32],
+) -> Result<Instance, Refusal>
+    requires { Ready opened.now × RoomFor opened.now.source links.old values.old }
+    ensures says { outcome_of (λ r. run_of opened.now r links.new values.new) result ≡ even_run (accepted (migration_of opened.now)) i.now }
+    ensures even { IfOk result (λ r. EvenRun opened.now r links.new values.new) }
 {
-    let source = opened.source;
-    let run = judge_instance(source, i, &mut *links, &mut *values);
-    let first = opened.refusal;
-    let sheets = first.or(run.fault, 4);
-    if sheets.number == 0 {
-        let evenness = Refusal {
-            number: uneven(opened),
-            place: 0,
-        };
-        return Run {
-            refusal: evenness,
-            tables: run,
-        };
-    }
-    Run {
-        refusal: sheets,
-        tables: run,
-    }
+    let run = open_instance(&opened.source, i, 4, links, values)?;
+    check_even(opened)?;
+    Ok(run)
 }
 
-// Sigma's tables of a run along an even mapping.
+// Sigma's tables of a run along an even mapping. Refuses with 15.
 pub fn push_run(
-    opened: Opened,
+    opened: &Opened,
     run: Instance,
     run_links: &[u32],
     run_values: &[u32],
     links: &mut [u32],
     values: &mut [u32],
-) -> Migrated
-    requires { PushableRun opened run run_links.now run_values.now × RoomFor opened.source run_links.now run_values.now × RoomFor opened.target links.old values.old }
-    ensures { Migrates result links.new values.new (pushed_run (run_input_of opened run run_links.now run_values.now)) }
+) -> Result<Migrated, Refusal>
+    requires { PushableRun opened.now run run_links.now run_values.now × RoomFor opened.now.source run_links.now run_values.now × RoomFor opened.now.target links.old values.old }
+    ensures { Migrates result links.new values.new (pushed_run (run_input_of opened.now run run_links.now run_values.now)) }
 {
-    let target = opened.target;
-    let pushed = sigma::sigma(
+    let tables = sigma::sigma(
         opened.source,
-        target,
+        opened.target,
         opened.source_paths,
         opened.target_paths,
         opened.mapping,
         run,
         run_links,
         run_values,
-        &mut *links,
-        &mut *values,
+        links,
+        values,
     );
-    let size = Refusal {
-        number: overfull(target, pushed),
-        place: 0,
-    };
-    Migrated {
-        refusal: size,
-        schema: target,
-        tables: pushed,
-    }
+    check_rows(&opened.target, &tables)?;
+    Ok(Migrated {
+        schema: opened.target,
+        tables,
+    })
 }

@@ -1,12 +1,13 @@
 -- Laws of text that is written piece after piece.
-use Prim.Native.Nat.{ℕ, suc, ◌+◌, ◌≤◌, ◌<◌}
+use Prim.Native.Nat.{ℕ, suc, ◌+◌}
 use mathlib.Core.Path.{◌≡◌, refl, sym, ap, ◌∙◌}
 use mathlib.Core.List.{List, [], ◌∷◌, ◌++◌}
 use native.Mathlib.Omega.{arith}
 use native.Mathlib.Nat.{add-zero}
-use native.Mathlib.Numerals.{add-one}
-use lib.ListN.{length, get_or, set, drop, length-append, drop_of_length-le}
-use lib.Seq.{sets, length-sets, drop-cons}
+use lib.ListN.{length, set, length-append}
+use lib.Seq.{sets, length-sets, sets-eq, drop-drop}
+use borrow.Rule.Slice.PartMut.{put_mid}
+use Rattle.std.proofs.Common.{append_assoc}
 use Rattle.text.specs.Appended.{Room, Appended}
 
 sets-append : (l : List ℕ) (i : ℕ) (a b : List ℕ) → sets l i (a ++ b) ≡ sets (sets l i a) (i + length a) b
@@ -22,6 +23,10 @@ appended-none l at = record { next = sym (add-zero at); bytes = refl }
 
 pub appended-byte : (l : List ℕ) (at b : ℕ) → Appended l at (b ∷ []) (at + 1) (set l at b)
 appended-byte l at b = record { next = refl; bytes = refl }
+
+-- a word copied to its place
+pub appended-word : (l : List ℕ) (at k : ℕ) (word copy : List ℕ) → Room l at word → copy ≡ word → k ≡ length word → Appended l at word (at + length word) (put_mid at k l copy)
+appended-word l at k word copy R same long = record { next = refl; bytes = rw (same, long, drop-drop (length word) at l) (sym (rw append_assoc at (sets-eq word l at R.room))) }
 
 module _ {l : List ℕ} {at : ℕ} {a : List ℕ} {r : ℕ} {m : List ℕ} (A : Appended l at a r m) where
   pub appended-long : length m ≡ length l
@@ -59,18 +64,3 @@ module _ {l₀ : List ℕ} {at₀ : ℕ} {text l : List ℕ} {at : ℕ} where
 
   pub unwritten-done : Unwritten l₀ at₀ text l at [] → Appended l₀ at₀ text at l
   unwritten-done O = O.completes at l (appended-none l at)
-
--- ---- byte after byte
-module _ {l₀ : List ℕ} {at₀ : ℕ} {text l : List ℕ} {at : ℕ} (word : List ℕ) (i : ℕ) (O : Unwritten l₀ at₀ text l at (drop i word)) where
-  module _ (h : i < length word) where
-    next-byte : Unwritten l₀ at₀ text l at ((get_or word i 0 ∷ []) ++ drop (i + 1) word)
-    next-byte = rw (drop-cons word i 0 h, ← add-one i) at O
-
-    pub byte-room : at < length l
-    byte-room = let R = unwritten-room (get_or word i 0 ∷ []) (drop (i + 1) word) next-byte in omega (arith, R.room)
-
-    pub byte_step : Unwritten l₀ at₀ text (set l at (get_or word i 0)) (at + 1) (drop (i + 1) word)
-    byte_step = unwritten-step (get_or word i 0 ∷ []) (drop (i + 1) word) next-byte (appended-byte l at (get_or word i 0))
-
-  pub word-done : length word ≤ i → Appended l₀ at₀ text at l
-  word-done h = let e : drop i word ≡ [] = drop_of_length-le word h in unwritten-done (rw e at O)

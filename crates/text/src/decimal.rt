@@ -20,7 +20,7 @@ pub fn put_decimal(out: &mut [u8], at: usize, n: u32) -> usize
         out[at] = digit(n);
         return at + 1;
     }
-    let next = put_decimal(&mut *out, at, n / 10);
+    let next = put_decimal(out, at, n / 10);
     out[next] = digit(n % 10);
     next + 1
 }

@@ -3,8 +3,6 @@ ghost use Rattle.std.specs.Prelude.{◌≡◌, ◌+◌, ◌≤◌, length};
 ghost use Rattle.meaning.specs.Program as program;
 ghost use Rattle.text.specs.Framed.{LengthFound, LiesIn, part_of, SheetFound, NthFound};
 
-use schema::numbers::wide;
-
 // The bytes from start up to, not including, end.
 #[derive(Clone, Copy)]
 pub struct Part {
@@ -22,9 +20,7 @@ pub fn bytes_of<'a>(input: &'a [u8], p: Part) -> &'a [u8]
     requires { LiesIn input.now p }
     ensures { result.now ≡ part_of input.now p }
 {
-    let start = p.start;
-    let end = p.end;
-    &input[start..end]
+    &input[p.start..p.end]
 }
 
 // The byte length at a position.
@@ -32,7 +28,7 @@ pub fn length_at(input: &[u8], at: usize) -> usize
     requires { at + 2 ≤ length input.now }
     ensures { LengthFound input.now at result }
 {
-    256 * wide(input[at]) + wide(input[at + 1])
+    usize::from(u16::from_be_bytes([input[at], input[at + 1]]))
 }
 
 // The sheet after the byte length at a position, of which fewer than two bytes count as 0. The next byte length stands where the sheet ends.
@@ -50,13 +46,10 @@ pub fn sheet_at(input: &[u8], at: usize) -> Part
     let start = at + 2;
     let size = length_at(input, at);
     if all - start < size {
-        return Part {
-            start: start,
-            end: all,
-        };
+        return Part { start, end: all };
     }
     Part {
-        start: start,
+        start,
         end: start + size,
     }
 }
@@ -66,10 +59,8 @@ fn nth_part(input: &[u8], n: usize) -> Part
     ensures { NthFound input.now n result }
 {
     let mut at = 0;
-    let mut i = 0;
-    while i < n {
+    for _ in 0..n {
         at = sheet_at(input, at).end;
-        i += 1;
     }
     sheet_at(input, at)
 }

@@ -2,6 +2,7 @@
 #![tactic(auto)]
 
 use instance::Instance;
+use rows::Columns;
 use schema::Schema;
 
 mod decimal;
@@ -30,9 +31,9 @@ pub fn write_refusal(out: &mut [u8], number: u8, place: u8) -> Text
     requires { max_text_bytes ≤ length out.old }
     ensures { Written (shown (refused number place)) out.old result out.new }
 {
-    let a = lines::put_word(&mut *out, 0, b"refused");
-    let b = lines::put_part(&mut *out, a, number as u32);
-    let c = lines::put_part(&mut *out, b, place as u32);
+    let a = lines::put_word(out, 0, b"refused");
+    let b = lines::put_part(out, a, u32::from(number));
+    let c = lines::put_part(out, b, u32::from(place));
     out[c] = b'\n';
     Text { length: c + 1 }
 }
@@ -56,15 +57,19 @@ pub fn write_tables(
     let node = schema.node;
     let counts = tables.counts;
     let rows = instance::decode::total(&counts, nodes);
-    let at = lines::put_header(&mut *out, nodes as u32, rows as u32);
+    let at = lines::put_header(out, nodes as u32, rows as u32);
     let length = rows::put_tables(
-        &mut *out,
+        out,
         at,
         &counts[..nodes],
-        &source[..edges],
-        links,
-        &node[..attributes],
-        values,
+        Columns {
+            home: &source[..edges],
+            cells: links,
+        },
+        Columns {
+            home: &node[..attributes],
+            cells: values,
+        },
     );
-    Text { length: length }
+    Text { length }
 }

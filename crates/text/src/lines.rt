@@ -8,14 +8,9 @@ pub fn put_word(out: &mut [u8], at: usize, word: &[u8]) -> usize
     requires { Room out.old at word.now }
     ensures { Appended out.old at word.now result out.new }
 {
-    let mut p = at;
-    let mut i = 0;
-    while i < word.len() {
-        out[p] = word[i];
-        p += 1;
-        i += 1;
-    }
-    p
+    let end = at + word.len();
+    out[at..end].copy_from_slice(word);
+    end
 }
 
 // Writes a space and a number.
@@ -24,7 +19,7 @@ pub fn put_part(out: &mut [u8], at: usize, n: u32) -> usize
     ensures { Appended out.old at (part n) result out.new }
 {
     out[at] = b' ';
-    put_decimal(&mut *out, at + 1, n)
+    put_decimal(out, at + 1, n)
 }
 
 // Writes the first line of an accepted result from the front on.
@@ -32,10 +27,10 @@ pub fn put_header(out: &mut [u8], tables: u32, rows: u32) -> usize
     requires { Room out.old 0 (header_text tables rows) }
     ensures { Appended out.old 0 (header_text tables rows) result out.new }
 {
-    let a = put_word(&mut *out, 0, b"tables");
-    let b = put_part(&mut *out, a, tables);
-    let c = put_word(&mut *out, b, b" rows");
-    let d = put_part(&mut *out, c, rows);
+    let a = put_word(out, 0, b"tables");
+    let b = put_part(out, a, tables);
+    let c = put_word(out, b, b" rows");
+    let d = put_part(out, c, rows);
     out[d] = b'\n';
     d + 1
 }

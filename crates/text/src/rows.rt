@@ -2,43 +2,33 @@
 ghost use Rattle.std.specs.Prelude.{ℕ, ◌*◌, ◌≤◌, ◌<◌, length, get_or};
 ghost use Rattle.meaning.specs.Formats.{max_nodes, max_rows};
 ghost use Rattle.text.specs.Appended.{Room, Appended};
-ghost use Rattle.text.specs.Rows.{part_if, cells_text, row_text, table_text, tables_text, ColumnsFit};
+ghost use Rattle.text.specs.Rows.{cells_text, row_text, table_text, tables_text, ColumnsFit};
 
 use crate::decimal::put_decimal;
 use crate::lines::put_part;
 use instance::Instance;
 
-// Writes a number, where it is the row's own.
-fn put_cell(out: &mut [u8], at: usize, own: bool, n: u32) -> usize
-    requires { Room out.old at (part_if own n) }
-    ensures { Appended out.old at (part_if own n) result out.new }
-{
-    if own {
-        return put_part(&mut *out, at, n);
-    }
-    at
+// Columns of links or of values: the table of each, and their cells, column after column.
+#[derive(Clone, Copy)]
+pub struct Columns<'a> {
+    pub home: &'a [u8],
+    pub cells: &'a [u32],
 }
 
-// Writes a row's cells of the columns of its table.
-fn put_cells(
-    out: &mut [u8],
-    at: usize,
-    home: &[u8],
-    cells: &[u32],
-    table: usize,
-    row: usize,
-) -> usize
-    requires { Room out.old at (cells_text home.now cells.now table row) × (max_rows * length home.now ≤ length cells.now) × (row < max_rows) }
-    ensures { Appended out.old at (cells_text home.now cells.now table row) result out.new }
-{
-    let mut p = at;
-    let mut k = 0;
-    while k < home.len() {
-        let own = schema::numbers::wide(home[k]) == table;
-        p = put_cell(&mut *out, p, own, cells[Instance::ROWS * k + row]);
-        k += 1;
+impl<'a> Columns<'a> {
+    // Writes a row's cells of the columns of its table.
+    fn put_cells(self, out: &mut [u8], at: usize, table: usize, row: usize) -> usize
+        requires { Room out.old at (cells_text self.home.now self.cells.now table row) × (max_rows * length self.home.now ≤ length self.cells.now) × (row < max_rows) }
+        ensures { Appended out.old at (cells_text self.entry.home.now self.entry.cells.now table row) result out.new }
+    {
+        let mut p = at;
+        for (k, home) in self.home.iter().enumerate() {
+            if usize::from(*home) == table {
+                p = put_part(out, p, self.cells[Instance::ROWS * k + row]);
+            }
+        }
+        p
     }
-    p
 }
 
 // Writes the line of a row.
@@ -47,18 +37,16 @@ fn put_row(
     at: usize,
     table: usize,
     row: usize,
-    source: &[u8],
-    links: &[u32],
-    node: &[u8],
-    values: &[u32],
+    links: Columns,
+    values: Columns,
 ) -> usize
-    requires { Room out.old at (row_text source.now links.now node.now values.now table row) × ColumnsFit source.now links.now node.now values.now × (table < max_nodes) × (row < max_rows) }
-    ensures { Appended out.old at (row_text source.now links.now node.now values.now table row) result out.new }
+    requires { Room out.old at (row_text links.home.now links.cells.now values.home.now values.cells.now table row) × ColumnsFit links.home.now links.cells.now values.home.now values.cells.now × (table < max_nodes) × (row < max_rows) }
+    ensures { Appended out.old at (row_text links.entry.home.now links.entry.cells.now values.entry.home.now values.entry.cells.now table row) result out.new }
 {
-    let a = put_decimal(&mut *out, at, table as u32);
-    let b = put_part(&mut *out, a, row as u32);
-    let c = put_cells(&mut *out, b, source, links, table, row);
-    let d = put_cells(&mut *out, c, node, values, table, row);
+    let a = put_decimal(out, at, table as u32);
+    let b = put_part(out, a, row as u32);
+    let c = links.put_cells(out, b, table, row);
+    let d = values.put_cells(out, c, table, row);
     out[d] = b'\n';
     d + 1
 }
@@ -69,19 +57,15 @@ fn put_table(
     at: usize,
     table: usize,
     rows: usize,
-    source: &[u8],
-    links: &[u32],
-    node: &[u8],
-    values: &[u32],
+    links: Columns,
+    values: Columns,
 ) -> usize
-    requires { Room out.old at (table_text source.now links.now node.now values.now table rows) × ColumnsFit source.now links.now node.now values.now × (table < max_nodes) × (rows ≤ max_rows) }
-    ensures { Appended out.old at (table_text source.now links.now node.now values.now table rows) result out.new }
+    requires { Room out.old at (table_text links.home.now links.cells.now values.home.now values.cells.now table rows) × ColumnsFit links.home.now links.cells.now values.home.now values.cells.now × (table < max_nodes) × (rows ≤ max_rows) }
+    ensures { Appended out.old at (table_text links.entry.home.now links.entry.cells.now values.entry.home.now values.entry.cells.now table rows) result out.new }
 {
     let mut p = at;
-    let mut r = 0;
-    while r < rows {
-        p = put_row(&mut *out, p, table, r, source, links, node, values);
-        r += 1;
+    for row in 0..rows {
+        p = put_row(out, p, table, row, links, values);
     }
     p
 }
@@ -91,20 +75,15 @@ pub fn put_tables(
     out: &mut [u8],
     at: usize,
     counts: &[u32],
-    source: &[u8],
-    links: &[u32],
-    node: &[u8],
-    values: &[u32],
+    links: Columns,
+    values: Columns,
 ) -> usize
-    requires { Room out.old at (tables_text counts.now source.now links.now node.now values.now) × ColumnsFit source.now links.now node.now values.now × (length counts.now ≤ max_nodes) × ((d : ℕ) → d < length counts.now → get_or counts.now d 0 ≤ max_rows) }
-    ensures { Appended out.old at (tables_text counts.now source.now links.now node.now values.now) result out.new }
+    requires { Room out.old at (tables_text counts.now links.home.now links.cells.now values.home.now values.cells.now) × ColumnsFit links.home.now links.cells.now values.home.now values.cells.now × (length counts.now ≤ max_nodes) × ((d : ℕ) → d < length counts.now → get_or counts.now d 0 ≤ max_rows) }
+    ensures { Appended out.old at (tables_text counts.now links.entry.home.now links.entry.cells.now values.entry.home.now values.entry.cells.now) result out.new }
 {
     let mut p = at;
-    let mut d = 0;
-    while d < counts.len() {
-        let n = instance::decode::wide(counts[d]);
-        p = put_table(&mut *out, p, d, n, source, links, node, values);
-        d += 1;
+    for (table, rows) in counts.iter().enumerate() {
+        p = put_table(out, p, table, *rows as usize, links, values);
     }
     p
 }

@@ -14,12 +14,6 @@ no_bits s at e = rw e
 pub returns-then-k-eq0 : goal.returns-then-k-eq0
 returns-then-k-eq0 c = no_bits _ _ c.if-k-eq0.true
 
-pub bounds-s-at : goal.bounds-s-at
-bounds-s-at c = omega arith
-
-pub overflow_shr-result : goal.overflow_shr-result
-overflow_shr-result c = omega arith
-
 pub returns : goal.returns
 returns c =
-    rw c.wide.ensures (sym (field-head _ _ (omega (arith, c.shared_slice_known-1.given (c.args.at / 8)))))
+    rw c.from.ensures (sym (field-head _ _ (omega (arith, c.type_inv.s (c.args.at / 8)))))

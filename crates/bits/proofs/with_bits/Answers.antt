@@ -7,11 +7,11 @@ use Rattle.bits.proofs.with_bits.Goals.{After-bound}
 use Rattle.bits.proofs.with_bits.Goals as goal
 
 facts : (c : After-bound)
-    → Parts c.wide-n.result c.bound-top.result c.bound-low.result c.bound.result c.args.v
+    → Parts c.from-n.result c.bound-top.result c.bound-low.result c.bound.result c.args.v
 facts c =
     let g = c.args in
     parts _ g.w g.k g.v _ _ _ c.bound-top.ensures c.bound-low.ensures c.bound.ensures (omega arith)
-    (rw c.wide-n.ensures (search rules))
+    (rw c.from-n.ensures (search rules))
 
 pub nonzero_rem-part : goal.nonzero_rem-part
 nonzero_rem-part c = omega (arith, facts c)
@@ -39,4 +39,4 @@ overflow_cast-result c = omega (arith, facts c)
 
 pub returns : goal.returns
 unfolding with_bits
-returns c = rw (c.bound-top.ensures, c.bound-low.ensures, c.bound.ensures, c.wide-n.ensures)
+returns c = rw (c.bound-top.ensures, c.bound-low.ensures, c.bound.ensures, c.from-n.ensures)

@@ -9,15 +9,6 @@ use Rattle.bits.specs.Put.{with_bits, put, put_head}
 use Rattle.bits.proofs.Writing.{put_byte}
 use Rattle.bits.proofs.write_head.Goals as goal
 
-pub bounds-s-j : goal.bounds-s-j
-bounds-s-j c = omega arith
-
-pub with_bits-requires : goal.with_bits-requires
-with_bits-requires c = omega arith
-
-pub bounds-s-j-then-k-ne0 : goal.bounds-s-j-then-k-ne0
-bounds-s-j-then-k-ne0 c = omega arith
-
 in-byte : (s : List ℕ) (at head : ℕ) → at / 8 < length s → set s (at / 8) (with_bits (get_or s (at / 8) 0) (at % 8) (8 - at % 8) head) ≡ put_head s at head
 unfolding put_head
 in-byte s at head i = sym (rw add-zero at (put_byte s (at / 8) 0 (at % 8) (8 - at % 8) head (omega arith) i))

@@ -24,10 +24,10 @@ pub find_distances-d-requires : goal.find_distances-d-requires
 find_distances-d-requires c = (c.requires.0, c.path_table-p.ensures, linked c.args.t c.path_table-p.result c.requires.0 c.path_table-p.ensures (first (goal.at.find_distances-d-requires c).After-path_number-x) (second (goal.at.find_distances-d-requires c).After-path_number-y) (sym c.same_class.ensures ∙ c.if-same_class.true))
 
 pub descend-requires : goal.descend-requires
-descend-requires c = (c.requires.0, c.path_table-p.ensures, record { to = c.path_number-y.result; reaches = c.find_distances-d.ensures; away = c.index-n.ensures }, omega (arith, c.index-n.ensures, c.find_distances-d.ensures.few, c.requires.3))
+descend-requires c = (c.requires.0, c.path_table-p.ensures, record { to = c.path_number-y.result; reaches = c.find_distances-d.ensures; away = c.from-n.ensures }, omega (arith, c.from-n.ensures, c.find_distances-d.ensures.few, c.requires.3))
 
 pub returns-then-same_class : goal.returns-then-same_class
-returns-then-same_class c = chain-found c.args.t c.path_table-p.result c.requires.0 c.path_table-p.ensures (first (goal.at.returns-then-same_class c).After-path_number-x) (second (goal.at.returns-then-same_class c).After-path_number-y) c.descend.new.steps c.index-n.ensures c.find_distances-d.ensures c.descend.ensures
+returns-then-same_class c = chain-found c.args.t c.path_table-p.result c.requires.0 c.path_table-p.ensures (first (goal.at.returns-then-same_class c).After-path_number-x) (second (goal.at.returns-then-same_class c).After-path_number-y) c.descend.new.steps c.from-n.ensures c.find_distances-d.ensures c.descend.ensures
 
 pub returns : goal.returns
 returns c = none_found c.args.t c.path_table-p.result c.requires.0 c.path_table-p.ensures (first (goal.at.returns c).After-path_number-x) (second (goal.at.returns c).After-path_number-y) (sym c.same_class.ensures ∙ c.if-same_class.false)

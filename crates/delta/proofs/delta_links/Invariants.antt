@@ -1,5 +1,4 @@
 -- `delta::delta_links` meets its contract.
-use Prim.Native.Nat.{◌-◌}
 use Rattle.instance.specs.Decoded.{rows_of}
 use Rattle.instance.specs.Stored.{ColumnsStored}
 use Rattle.delta.specs.Pulled.{image_row}
@@ -7,6 +6,3 @@ use Rattle.delta.proofs.delta_links.Given as goal
 
 abbrev pub invariant-loop-e : goal.invariant-loop-e
 invariant-loop-e l = ColumnsStored l.e (rows_of l.source l.counts) (image_row l.f l.links) l.initial.out l.out
-
-abbrev pub decreases-loop-e : goal.decreases-loop-e
-decreases-loop-e l = l.n - l.e

@@ -1,5 +1,4 @@
 -- `delta::delta_values` meets its contract.
-use Prim.Native.Nat.{◌-◌}
 use Rattle.instance.specs.Decoded.{rows_of}
 use Rattle.instance.specs.Stored.{ColumnsStored}
 use Rattle.delta.specs.Pulled.{image_value}
@@ -7,6 +6,3 @@ use Rattle.delta.proofs.delta_values.Given as goal
 
 abbrev pub invariant-loop-a : goal.invariant-loop-a
 invariant-loop-a l = ColumnsStored l.a (rows_of l.node l.counts) (image_value l.attribute l.values) l.initial.out l.out
-
-abbrev pub decreases-loop-a : goal.decreases-loop-a
-decreases-loop-a l = l.n - l.a

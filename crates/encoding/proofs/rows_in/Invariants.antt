@@ -1,12 +1,9 @@
 -- `encoding::rows_in` meets its contract.
-use Prim.Native.Nat.{◌-◌, ◌*◌, ◌≤◌}
+use Prim.Native.Nat.{◌*◌, ◌≤◌}
 use mathlib.Core.Path.{◌≡◌}
 use Rattle.instance.specs.Decoded.{rows_of}
 use Rattle.encoding.specs.Written.{rows_in}
 use Rattle.encoding.proofs.rows_in.Given as goal
 
 abbrev pub invariant-loop-k : goal.invariant-loop-k
-invariant-loop-k l = (l.k ≤ l.n) × (l.sum ≤ 512 * l.k) × (l.sum ≡ rows_in l.k (rows_of l.home l.counts))
-
-abbrev pub decreases-loop-k : goal.decreases-loop-k
-decreases-loop-k l = l.n - l.k
+invariant-loop-k l = (l.sum ≤ 512 * l.k) × (l.sum ≡ rows_in l.k (rows_of l.home l.counts))

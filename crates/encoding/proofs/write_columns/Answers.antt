@@ -1,26 +1,19 @@
 -- `encoding::write_columns` meets its contract.
-use Prim.Native.Nat.{ℕ, ◌+◌, ◌*◌, ◌≤◌}
+use Prim.Native.Nat.{◌+◌, ◌*◌, ◌≤◌}
 use mathlib.Core.Path.{◌≡◌, refl, sym, ap, ◌∙◌}
 use native.Mathlib.Omega.{arith}
-use native.Mathlib.Nat.{mul-zero, mul-add, le_antisymm}
+use native.Mathlib.Nat.{mul-zero, mul-add}
 use lib.ListN.{length}
 use Rattle.bits.specs.Put.{put_all}
 use Rattle.bits.proofs.Writing.{length-put_all}
 use Rattle.meaning.specs.Formats.{fields_of}
 use Rattle.instance.specs.Decoded.{rows_of, column_of}
 use Rattle.instance.proofs.Columns.{width_few, column-ends, sum_of-more}
-use Rattle.encoding.specs.Written.{rows_in, column_fields}
 use Rattle.encoding.proofs.Writing.{put-none, put_all-more}
 use Rattle.encoding.proofs.write_columns.Goals as goal
 
 pub loop-k-init : goal.loop-k-init
-loop-k-init c = record { some = omega arith; near = omega arith; next = rw mul-zero (omega arith); long = refl; so_far = put-none _ _ }
-
-pub rows_of-rows-requires : goal.rows_of-rows-requires
-rows_of-rows-requires c = let C = c.requires.columns in (omega (arith, C.homes), C.tables c.loop-k.k c.loop-k-test.true)
-
-pub overflow_mul-k : goal.overflow_mul-k
-overflow_mul-k c = let b = c.requires.counted in let t = c.loop-k-test.true in omega arith
+loop-k-init c = record { near = omega arith; next = rw mul-zero (omega arith); long = refl; so_far = put-none _ _ }
 
 pub write_column-requires : goal.write_column-requires
 write_column-requires c =
@@ -36,51 +29,20 @@ write_column-requires c =
     in
     (record { narrow = P.narrow; counted = omega (arith, P.counted, l.invariant.near); within = d }, omega (arith, P.long))
 
-pub overflow_mul-p : goal.overflow_mul-p
-overflow_mul-p c =
-    let q = c.requires.columns.rows c.loop-k.k c.loop-k-test.true in
-    omega (arith, width_few c.args.width c.rows_of-rows.result c.requires.narrow (omega (arith, c.rows_of-rows.ensures)))
-
-pub overflow_add-p : goal.overflow_add-p
-overflow_add-p c =
-    let t = c.loop-k-test.true in
-    let q = c.requires.columns.rows c.loop-k.k t in
-    let w = width_few c.args.width c.rows_of-rows.result c.requires.narrow (omega (arith, c.rows_of-rows.ensures)) in
-    omega (arith, c.requires.counted, c.loop-k.invariant.near)
-
-pub overflow_add-k : goal.overflow_add-k
-overflow_add-k c = let t = c.loop-k-test.true in omega arith
-
-pub loop-k-smaller : goal.loop-k-smaller
-loop-k-smaller c = let t = c.loop-k-test.true in omega arith
-
 pub loop-k-preserved : goal.loop-k-preserved
 loop-k-preserved c =
     let a = c.args in
     let P = c.requires in
     let l = c.loop-k in
     let v = l.invariant in
-    let t = c.loop-k-test.true in
     let e = c.rows_of-rows.ensures in
     let w = c.write_column in
     let rows = rows_of a.home.now a.counts.now in
-    let f = width_few a.width c.rows_of-rows.result P.narrow (omega (arith, P.columns.rows l.k t)) in
+    let f = width_few a.width c.rows_of-rows.result P.narrow (omega (arith, P.columns.rows l.k c.loop-k-test.true)) in
     let d : w.new.tray ≡ put_all l.tray l.p (fields_of a.width (column_of a.l.now (512 * l.k) (rows l.k))) = rw e at w.ensures in
     record {
-      some = omega arith;
       near = omega (arith, v.near);
       next = rw (sum_of-more l.k rows, mul-add, e) (omega (arith, v.next));
       long = ap length d ∙ length-put_all l.tray l.p _ ∙ v.long;
       so_far = d ∙ rw (v.so_far, v.next) (sym (put_all-more a.width rows a.l.now a.tray.now a.at l.k));
-    }
-
-pub returns : goal.returns
-returns c =
-    let a = c.args in
-    let l = c.loop-k in
-    let e = le_antisymm l.invariant.some c.loop-k-test.false in
-    record {
-      next_is = l.invariant.next ∙ ap (λ (k : ℕ). a.at + a.width * rows_in k (rows_of a.home.now a.counts.now)) e;
-      near = omega (arith, l.invariant.near);
-      says = l.invariant.so_far ∙ ap (λ (k : ℕ). put_all a.tray.now a.at (column_fields a.width k (rows_of a.home.now a.counts.now) a.l.now)) e;
     }

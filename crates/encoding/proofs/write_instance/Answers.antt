@@ -1,6 +1,5 @@
 -- `encoding::write_instance` meets its contract.
 use Prim.Native.Nat.{◌*◌, ◌≤◌}
-use mathlib.Core.Path.{◌≡◌, sym}
 use native.Mathlib.Omega.{arith}
 use lib.ListN.{length}
 use borrow.Author.Rules.{rules}
@@ -10,18 +9,9 @@ use Rattle.encoding.proofs.Writing.{sheet-written}
 use Rattle.encoding.proofs.write_instance.Goals.{Start}
 use Rattle.encoding.proofs.write_instance.Goals as goal
 
-source-long : (c : Start) → length c.args.schema.graph.source ≡ 32
-source-long c = search rules
-
-node_long : (c : Start) → length c.args.schema.node ≡ 16
-node_long c = search rules
-
 -- the tray has room for all bits
 room : (c : Start) → sheet_bits c.args.schema c.args.instance ≤ 8 * length c.args.tray.now
 room c = omega (arith, c.requires.3)
-
-pub slice_bounds-write_columns-end : goal.slice_bounds-write_columns-end
-slice_bounds-write_columns-end c = sym (source-long (goal.at.slice_bounds-write_columns-end c).Start)
 
 pub write_columns-middle-requires : goal.write_columns-middle-requires
 write_columns-middle-requires c =
@@ -34,13 +24,10 @@ write_columns-middle-requires c =
     record {
       narrow = omega arith;
       counted = omega arith;
-      columns = link-columns c.args.schema A c.args.instance.counts L.rows L.long (source-long (goal.at.write_columns-middle-requires c).Start);
+      columns = link-columns c.args.schema A c.args.instance.counts L.rows L.long (search rules);
       long = omega (arith, c.requires.2.for_links);
       within = omega (arith, room (goal.at.write_columns-middle-requires c).Start);
     }
-
-pub slice_bounds-write_columns-end-3 : goal.slice_bounds-write_columns-end-3
-slice_bounds-write_columns-end-3 c = sym (node_long (goal.at.slice_bounds-write_columns-end-3 c).Start)
 
 pub write_columns-requires : goal.write_columns-requires
 write_columns-requires c =
@@ -55,7 +42,7 @@ write_columns-requires c =
     record {
       narrow = omega arith;
       counted = omega (arith, c.write_columns-middle.ensures.near);
-      columns = value-columns c.args.schema A c.args.instance.counts L.rows L.long (node_long (goal.at.write_columns-requires c).Start);
+      columns = value-columns c.args.schema A c.args.instance.counts L.rows L.long (search rules);
       long = omega (arith, c.requires.2.for_values);
       within = omega (arith, room (goal.at.write_columns-requires c).Start, c.write_columns-middle.ensures.next_is);
     }

@@ -1,7 +1,6 @@
 -- `sigma::sigma` meets its contract.
 use borrow.Author.Rules.{rules}
 use Rattle.sigma.proofs.Pushing.{all-lead, all-over, counts_are, links-are, values-are, pushed}
-use Rattle.sigma.proofs.sigma.Goals.{After-lifts-1}
 use Rattle.sigma.proofs.sigma.Goals as goal
 
 pub sigma_links-requires : goal.sigma_links-requires
@@ -18,4 +17,4 @@ pub returns : goal.returns
 returns c =
     let P = c.requires.0 in
     let C = c.sigma_counts-pushed.ensures in
-    pushed (counts_are P C) (links-are P c.requires.1.for_links c.edge_lifts-lifts.ensures C c.sigma_links.ensures) (values-are P C c.sigma_values.ensures) C.counts.long C.unrefused
+    pushed (counts_are P C) (links-are P c.requires.1.for_links c.edge_lifts-lifts.ensures C c.sigma_links.ensures) (values-are P C c.sigma_values.ensures) C.counts.long

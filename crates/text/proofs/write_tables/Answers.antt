@@ -1,6 +1,5 @@
 -- `text::write_tables` meets its contract: the first line, and the lines of all tables.
 use mathlib.Core.Path.{sym}
-use native.Mathlib.Omega.{arith}
 use borrow.Author.Rules.{rules}
 use Rattle.text.proofs.ArrayTexts.{Sized, edges-within, attributes-within, nodes-within, source-long, node_long, counts_long}
 use Rattle.text.proofs.WholeText.{tables-few, rows_few, columns-fit, header-room, rows-room, tables-written}
@@ -12,12 +11,6 @@ sized c = record { limits = c.requires.0.limits; source = search rules; node = s
 
 pub total-rows-requires : goal.total-rows-requires
 total-rows-requires c = (c.requires.0.limits.nodes, nodes-within (sized (goal.at.total-rows-requires c).Start))
-
-pub overflow_cast-nodes : goal.overflow_cast-nodes
-overflow_cast-nodes c = omega (arith, c.requires.0.limits.nodes)
-
-pub overflow_cast-rows : goal.overflow_cast-rows
-overflow_cast-rows c = omega (arith, c.requires.0.rows, c.total-rows.ensures)
 
 pub put_header-at-requires : goal.put_header-at-requires
 put_header-at-requires c = rw c.total-rows.ensures (header-room _ _ _ _ (sized (goal.at.put_header-at-requires c).Start) c.requires.0 _ c.requires.1)

@@ -4,8 +4,8 @@ use Rattle.schema.specs.Decoded.{schema_of}
 use Rattle.chain.proofs.LevelDistances.{Labelled}
 use Rattle.chain.proofs.levels.find_distances.Given as goal
 
-abbrev pub invariant-loop-t : goal.invariant-loop-t
-invariant-loop-t l = Labelled (schema_of l.t) l.y l.k l.k l.d.of
+abbrev pub invariant-loop-d : goal.invariant-loop-d
+invariant-loop-d l = Labelled (schema_of l.t) l.y l.k l.k l.d.of
 
-abbrev pub decreases-loop-t : goal.decreases-loop-t
-decreases-loop-t l = 255 - l.k
+abbrev pub decreases-loop-d : goal.decreases-loop-d
+decreases-loop-d l = 255 - l.k

@@ -1,22 +1,20 @@
 -- `chain::levels::mark_places` meets its contract. The invariant: the first b landings are marked.
+use mathlib.Core.Path.{◌≡◌, ◌∙◌}
 use native.Mathlib.Omega.{arith}
-use Rattle.chain.proofs.Marking.{places-start, places-more, places-done}
+use Rattle.std.specs.Prelude.{unwrap_or}
+use Rattle.chain.specs.Levels.{mark}
+use Rattle.chain.proofs.Marking.{places-more, places-done}
+use Rattle.chain.proofs.levels.mark_places.Goals.{in-Some, in_default}
 use Rattle.chain.proofs.levels.mark_places.Goals as goal
 
-pub loop-b-init : goal.loop-b-init
-loop-b-init c = places-start _ _ _ _
-
-pub landing-y-requires : goal.landing-y-requires
-landing-y-requires c = c.requires c.loop-b.b c.loop-b-test.true
-
-pub overflow_add-b : goal.overflow_add-b
-overflow_add-b c = let h = c.loop-b-test.true in omega (arith, (c.requires c.loop-b.b h).short)
-
-pub loop-b-smaller : goal.loop-b-smaller
-loop-b-smaller c = let h = c.loop-b-test.true in omega arith
-
 pub loop-b-preserved : goal.loop-b-preserved
-loop-b-preserved c = let h = c.loop-b-test.true in places-more c.loop-b.invariant (omega arith) c.landing-y.ensures c.mark_path.ensures
+loop-b-preserved c =
+    let m : c.match-landing.of ≡ mark c.args.k (unwrap_or c.landing.result 256) c.loop-b.of =
+    elim c.match-landing.branch [ in-Some w ↦ rw w.in-Some.is (w.of-is ∙ w.mark_path.ensures) | in_default w ↦ rw w.in_default.is w.of-is ] in
+    places-more c.loop-b.invariant (omega arith) c.landing.ensures m
 
-pub returns : goal.returns
-returns c = let h = c.loop-b-test.false in places-done c.loop-b.invariant (omega arith)
+pub returns-after-landing : goal.returns-after-landing
+returns-after-landing c =
+    let m : c.match-landing.of ≡ mark c.args.k (unwrap_or c.landing.result 256) c.loop-b.of =
+    elim c.match-landing.branch [ in-Some w ↦ rw w.in-Some.is (w.of-is ∙ w.mark_path.ensures) | in_default w ↦ rw w.in_default.is w.of-is ] in
+    places-done (places-more c.loop-b.invariant (omega arith) c.landing.ensures m) (omega arith)

@@ -1,15 +1,10 @@
 -- `changes::exports::migration_add_row` meets its contract.
-use mathlib.Core.Path.{ap, ◌∙◌}
-use Prim.Native.Nat.{ℕ}
+use mathlib.Core.Path.{ap}
 use lib.ListN.{take}
 use Rattle.meaning.specs.Changes.{addition_sheets, Trays}
 use Rattle.migration.proofs.Encoding.{results_within}
-use Rattle.changes.specs.Answers.{returned}
 use Rattle.changes.proofs.Trays.{low-answer}
 use Rattle.changes.proofs.exports.migration_add_row.Goals as goal
 
 pub changed_number-requires : goal.changed_number-requires
 changed_number-requires c = let a = c.args in let x = c.add_row in low-answer x.result a.run.now a.pushed.now (addition_sheets a.s.now a.t.now a.f.now (take a.run_length a.run.now) a.table a.row.now) (ap (λ (t : Trays). t.answer) x.ensures) (results_within.row_added a.s.now a.t.now a.f.now (take a.run_length a.run.now) a.table a.row.now)
-
-pub returns : goal.returns
-returns c = let x = c.add_row in ap (λ (n : ℕ). (n, x.new.run, x.new.pushed)) c.changed_number.ensures ∙ ap returned x.ensures

@@ -1,20 +1,22 @@
 -- `changes::tables::change_tables` meets its contract.
-use native.Mathlib.Omega.{arith}
-use Rattle.steps.specs.Opened.{opened_of}
-use Rattle.changes.proofs.Pushing.{sheets-stopped, change-stopped, changed-run, change-made}
+use Rattle.std.proofs.Common.{rules}
+use Rattle.changes.proofs.Pushing.{pushed-limits, sheets-told}
 use Rattle.changes.proofs.tables.change_tables.Goals as goal
 
-pub change-after-requires : goal.change-after-requires
-change-after-requires c = let o = c.open_run-run in (record { sound = o.ensures.schemas.source; limits = o.ensures.limits; accepted = o.ensures.accepted c.if-first-eq0.true }, record { for_links = omega (arith, c.requires.1.run.for_links, o.auto.links); for_values = omega (arith, c.requires.1.run.for_values, o.auto.values) }, c.requires.1.row)
-
-pub push_changed-requires : goal.push_changed-requires
-push_changed-requires c = let a = c.args in let o = c.open_run-run in let C = c.change-after in (changed-run a.kind a.opened (opened_of a.opened) a.i.now a.table a.row.now o.result o.new.links o.new.values o.ensures c.if-first-eq0.true C.ensures c.if-after-eq0.true, (record { for_links = omega (arith, c.requires.1.run.for_links, o.auto.links, c.change-after.auto.run_links); for_values = omega (arith, c.requires.1.run.for_values, o.auto.values, c.change-after.auto.run_values) }), (record { for_links = omega (arith, c.requires.1.pushed.for_links, c.change-after.auto.links); for_values = omega (arith, c.requires.1.pushed.for_values, c.change-after.auto.values) }))
-
-pub returns-then-after-eq0 : goal.returns-then-after-eq0
-returns-then-after-eq0 c = let a = c.args in let o = c.open_run-run in change-made a.kind a.opened (opened_of a.opened) a.i.now a.table a.row.now o.result o.new.links o.new.values o.ensures (record { for_links = omega (arith, c.requires.1.run.for_links, o.auto.links, c.change-after.auto.run_links); for_values = omega (arith, c.requires.1.run.for_values, o.auto.values, c.change-after.auto.run_values) }) (record { for_links = omega (arith, c.requires.1.pushed.for_links, c.change-after.auto.links, c.push_changed.auto.links); for_values = omega (arith, c.requires.1.pushed.for_values, c.change-after.auto.values, c.push_changed.auto.values) }) c.if-first-eq0.true c.change-after.ensures c.if-after-eq0.true c.push_changed.ensures
-
-pub returns-then-first-eq0 : goal.returns-then-first-eq0
-returns-then-first-eq0 c = let a = c.args in let o = c.open_run-run in change-stopped a.kind a.opened (opened_of a.opened) a.i.now a.table a.row.now o.result o.new.links o.new.values o.ensures (record { for_links = omega (arith, c.requires.1.run.for_links, o.auto.links, c.change-after.auto.run_links); for_values = omega (arith, c.requires.1.run.for_values, o.auto.values, c.change-after.auto.run_values) }) (record { for_links = omega (arith, c.requires.1.pushed.for_links, c.change-after.auto.links); for_values = omega (arith, c.requires.1.pushed.for_values, c.change-after.auto.values) }) c.if-first-eq0.true c.change-after.ensures c.if-after-eq0.false _ c.refused.ensures
-
 pub returns : goal.returns
-returns c = let a = c.args in let o = c.open_run-run in sheets-stopped a.kind a.opened (opened_of a.opened) a.i.now a.table a.row.now o.result o.new.links o.new.values o.ensures (record { for_links = omega (arith, c.requires.1.run.for_links, o.auto.links); for_values = omega (arith, c.requires.1.run.for_values, o.auto.values) }) c.requires.1.pushed c.if-first-eq0.false _ c.refused-2.ensures
+returns c =
+    let a = c.args in
+    let b = c.in_ok-before in
+    let r = c.in_ok-run in
+    let s = c.sigma-pushed in
+    record {
+      says = sheets-told a.kind a.opened.now a.i.now a.table a.row.now b.before r.run' s.result c.open_run.new.links c.open_run.new.values c.change.new.run_links c.change.new.run_values s.new.followed s.new.copied b.ensures.says r.ensures.says s.ensures.says;
+      writable = record {
+        source = c.requires.0.schemas.source;
+        target = c.requires.0.schemas.target;
+        run_limits = r.ensures.run.limits;
+        pushed_limits = pushed-limits c.requires.0 b.ensures.even.is-even r.ensures.run s.ensures;
+        run_room = search rules;
+        pushed_room = search rules;
+      };
+    }

@@ -16,4 +16,4 @@ returns c =
     let nodes = c.images_of-node in
     let edges = c.path_images-edge in
     let attributes = c.images_of-attribute in
-    composed c.requires (record { fault = 0; node = nodes.result; edge = edges.result; attribute = attributes.result }) nodes.ensures edges.ensures attributes.ensures
+    composed c.requires (record { node = nodes.result; edge = edges.result; attribute = attributes.result }) nodes.ensures edges.ensures attributes.ensures

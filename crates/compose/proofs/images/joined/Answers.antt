@@ -1,22 +1,10 @@
 -- `compose::images::joined` meets its contract.
-use mathlib.Core.Path.{refl, ◌∙◌}
-use native.Mathlib.Omega.{arith}
-use lib.ListN.{length-set}
-use borrow.Author.Rules.{rules}
-use Rattle.instance.proofs.Storing.{stored-none, stored_more, stored-done}
-use Rattle.compose.proofs.Joining.{stored-behind}
+use Rattle.std.proofs.Common.{◌≡◌, ◌+◌, ◌-◌, refl, arith}
+use Rattle.compose.proofs.Joining.{written-behind}
 use Rattle.compose.proofs.images.joined.Goals as goal
-
-pub loop-i-init : goal.loop-i-init
-loop-i-init c = (omega arith, search rules, stored-none _ _ _)
-
-pub loop-i-preserved : goal.loop-i-preserved
-loop-i-preserved c =
-    let v = c.loop-i.invariant in
-    let t = c.loop-i-test.true in
-    (omega arith, length-set c.loop-i.edges _ _ ∙ v.1, stored_more v.2 (omega arith) refl)
 
 pub returns : goal.returns
 returns c =
-    let v = c.loop-i.invariant in
-    (stored-behind (stored-done v.2 c.loop-i-test.false), refl)
+    let a = c.args in
+    let k : c.from-from.result + c.from-n.result - c.from-from.result ≡ c.from-n.result = omega arith in
+    (rw (k, c.copy_from_slice.ensures.after, c.from-from.ensures, c.from-n.ensures) (written-behind a.a.length a.b.length a.a.edges a.b.edges (omega arith) (omega arith)), refl)

@@ -1,11 +1,7 @@
 -- `delta::columns::count_column` meets its contract.
-use Prim.Native.Nat.{◌-◌}
 use Rattle.instance.specs.Decoded.{rows_of}
 use Rattle.instance.specs.Stored.{Counts}
 use Rattle.delta.proofs.columns.count_column.Given as goal
 
 abbrev pub invariant-loop-c : goal.invariant-loop-c
 invariant-loop-c l = Counts l.c (rows_of l.node l.counts) l.out
-
-abbrev pub decreases-loop-c : goal.decreases-loop-c
-decreases-loop-c l = l.n - l.c

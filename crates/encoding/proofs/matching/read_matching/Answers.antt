@@ -16,22 +16,16 @@ returns-then-lacks_at c =
     let h : 8 * length a.s.now < 0 + 9 * a.n = ltb-true _ _ (sym c.lacks_at.ensures ∙ c.if-lacks_at.true) in
     sym (ap judged (partners-cut a.s.now a.n (omega arith)))
 
-pub read_column-requires : goal.read_column-requires
-read_column-requires c =
+pub returns-then-not-ends_at : goal.returns-then-not-ends_at
+returns-then-not-ends_at c =
     let a = c.args in
     let h : 0 + 9 * a.n ≤ 8 * length a.s.now = ltb-false _ _ (sym c.lacks_at.ensures ∙ c.if-lacks_at.false) in
-    (record { narrow = omega arith; counted = omega arith; within = h }, omega arith)
-
-pub returns-then-ends_at : goal.returns-then-ends_at
-returns-then-ends_at c =
-    let a = c.args in
-    let h : 0 + 9 * a.n ≤ 8 * length a.s.now = ltb-false _ _ (sym c.lacks_at.ensures ∙ c.if-lacks_at.false) in
-    let t : tail_ok a.s.now (9 * a.n) ≡ true = sym c.ends_at.ensures ∙ c.if-ends_at.true in
-    sym (ap judged (partners-read a.s.now a.n c.read_column.ensures (omega arith) t))
+    let t : tail_ok a.s.now (9 * a.n) ≡ false = sym c.ends_at.ensures ∙ c.if-not-ends_at.true in
+    sym (ap judged (partners-tail a.s.now a.n (omega arith) t))
 
 pub returns : goal.returns
 returns c =
     let a = c.args in
     let h : 0 + 9 * a.n ≤ 8 * length a.s.now = ltb-false _ _ (sym c.lacks_at.ensures ∙ c.if-lacks_at.false) in
-    let t : tail_ok a.s.now (9 * a.n) ≡ false = sym c.ends_at.ensures ∙ c.if-ends_at.false in
-    sym (ap judged (partners-tail a.s.now a.n (omega arith) t))
+    let t : tail_ok a.s.now (9 * a.n) ≡ true = sym c.ends_at.ensures ∙ c.if-not-ends_at.false in
+    sym (ap judged (partners-read a.s.now a.n c.read_column.ensures (omega arith) t))

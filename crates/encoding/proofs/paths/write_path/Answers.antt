@@ -5,4 +5,4 @@ use Rattle.encoding.proofs.paths.write_path.Goals as goal
 pub returns : goal.returns
 returns c =
     let a = c.args in
-    path-written a.n a.edges.now a.start a.tray.now c.path_length-bytes.ensures c.clear.ensures (rw (← c.number.ensures) c.write_column.ensures) c.write_edges.ensures
+    path-written a.n a.edges.now a.start a.tray.now c.path_length-bytes.ensures c.clear.ensures (rw c.from.ensures at c.write_column.ensures) c.write_edges.ensures

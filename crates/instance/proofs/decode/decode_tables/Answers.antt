@@ -6,7 +6,7 @@ use lib.ListN.{length}
 use borrow.Author.Rules.{rules}
 use Rattle.bits.specs.Field.{tail_ok}
 use Rattle.meaning.specs.Sheet.{judged}
-use Rattle.instance.proofs.Decoding.{faulty-says, link-columns, value-columns, links-cut, values-cut, tables-tail, tables-read}
+use Rattle.instance.proofs.Decoding.{link-columns, value-columns, links-cut, values-cut, tables-tail, tables-read}
 use Rattle.instance.proofs.decode.decode_tables.Goals.{Start}
 use Rattle.instance.proofs.decode.decode_tables.Goals as goal
 
@@ -19,44 +19,45 @@ node_long c = search rules
 counts_long : (c : Start) → length c.args.counts ≡ 16
 counts_long c = search rules
 
-pub read_columns-a-requires : goal.read_columns-a-requires
-read_columns-a-requires c =
+pub read_columns-requires : goal.read_columns-requires
+read_columns-requires c =
     let A = c.requires.0 in
     let e = A.limits.edges in
     let n = A.limits.nodes in
-    (omega arith, record { inside = c.requires.2; counted = omega arith }, link-columns c.args.schema A c.args.counts c.requires.4 (counts_long (goal.at.read_columns-a-requires c).Start) (source-long (goal.at.read_columns-a-requires c).Start), omega (arith, c.requires.1.for_links))
+    (omega arith, record { inside = c.requires.2; counted = omega arith }, link-columns c.args.schema A c.args.counts c.requires.4 (counts_long (goal.at.read_columns-requires c).Start) (source-long (goal.at.read_columns-requires c).Start), omega (arith, c.requires.1.for_links))
 
-pub returns-then-a : goal.returns-then-a
-returns-then-a c =
-    faulty-says c.args.schema _ _ c.faulty.ensures (ap judged (links-cut c.args.schema c.requires.0 c.args.counts c.args.s.now _ c.read_columns-a.ensures c.if-a.true))
+pub returns-in_err-middle-clause-says : goal.returns-in_err-middle-clause-says
+returns-in_err-middle-clause-says c =
+    let u = rw c.in_err-middle.ensures.ok_part at c.read_columns.ensures in
+    let cut = sym (ap judged (links-cut c.args.schema c.requires.0 c.args.counts c.args.s.now _ u)) in
+    search (rules, cut)
 
-pub slice_bounds-read_columns-end-3 : goal.slice_bounds-read_columns-end-3
-slice_bounds-read_columns-end-3 c = sym (node_long (goal.at.slice_bounds-read_columns-end-3 c).Start)
-
-pub read_columns-b-requires : goal.read_columns-b-requires
-read_columns-b-requires c =
+pub read_columns-requires-2 : goal.read_columns-requires-2
+read_columns-requires-2 c =
     let A = c.requires.0 in
-    let u = c.read_columns-a.ensures in
+    let u = rw c.in_ok-middle.ensures.ok_part at c.read_columns.ensures in
     let e = A.limits.edges in
     let n = A.limits.nodes in
     let m = A.limits.attributes in
-    (omega arith, record { inside = u.inside; counted = omega (arith, u.near) }, value-columns c.args.schema A c.args.counts c.requires.4 (counts_long (goal.at.read_columns-b-requires c).Start) (node_long (goal.at.read_columns-b-requires c).Start), omega (arith, c.requires.1.for_values))
+    (omega arith, record { inside = u.inside; counted = omega (arith, u.near) }, value-columns c.args.schema A c.args.counts c.requires.4 (counts_long (goal.at.read_columns-requires-2 c).Start) (node_long (goal.at.read_columns-requires-2 c).Start), omega (arith, c.requires.1.for_values))
 
-pub returns-then-b : goal.returns-then-b
-returns-then-b c =
-    faulty-says c.args.schema _ _ c.faulty-then-b.ensures
-    (ap judged (values-cut c.args.schema c.requires.0 c.args.counts c.args.s.now _ c.read_columns-a.ensures c.read_columns-b.ensures c.if-a.false c.if-b.true))
+pub returns-in_err-end-clause-says : goal.returns-in_err-end-clause-says
+returns-in_err-end-clause-says c =
+    let u = rw c.in_ok-middle.ensures.ok_part at c.read_columns.ensures in
+    let v = rw c.in_err-end.ensures.ok_part at c.read_columns-2.ensures in
+    let cut = sym (ap judged (values-cut c.args.schema c.requires.0 c.args.counts c.args.s.now _ u v)) in
+    search (rules, cut)
 
-pub returns-then-ends_at : goal.returns-then-ends_at
-returns-then-ends_at c =
-    let t : tail_ok c.args.s.now c.read_columns-b.result.next ≡ true = sym c.ends_at.ensures ∙ c.if-ends_at.true in
-    record {
-      says = sym (ap judged (tables-read c.args.schema c.requires.0 c.args.counts c.args.s.now _ c.read_columns-a.ensures c.read_columns-b.ensures c.if-a.false (record { fault = 0; counts = c.args.counts }) refl c.if-b.false t));
-      limits = record { rows = c.requires.4; long = counts_long (goal.at.returns-then-ends_at c).Start };
-    }
+pub returns-then-not-ends_at-clause-says : goal.returns-then-not-ends_at-clause-says
+returns-then-not-ends_at-clause-says c =
+    let u = rw c.in_ok-middle.ensures.ok_part at c.read_columns.ensures in
+    let v = rw c.in_ok-end.ensures.ok_part at c.read_columns-2.ensures in
+    let t : tail_ok c.args.s.now c.in_ok-end.end ≡ false = sym c.ends_at.ensures ∙ c.if-not-ends_at.true in
+    sym (ap judged (tables-tail c.args.schema c.requires.0 c.args.counts c.args.s.now _ u v t))
 
-pub returns : goal.returns
-returns c =
-    let t : tail_ok c.args.s.now c.read_columns-b.result.next ≡ false = sym c.ends_at.ensures ∙ c.if-ends_at.false in
-    faulty-says c.args.schema _ _ c.faulty-2.ensures
-    (ap judged (tables-tail c.args.schema c.requires.0 c.args.counts c.args.s.now _ c.read_columns-a.ensures c.read_columns-b.ensures c.if-a.false c.if-b.false t))
+pub returns-clause-says : goal.returns-clause-says
+returns-clause-says c =
+    let u = rw c.in_ok-middle.ensures.ok_part at c.read_columns.ensures in
+    let v = rw c.in_ok-end.ensures.ok_part at c.read_columns-2.ensures in
+    let t : tail_ok c.args.s.now c.in_ok-end.end ≡ true = sym c.ends_at.ensures ∙ c.if-not-ends_at.false in
+    sym (ap judged (tables-read c.args.schema c.requires.0 c.args.counts c.args.s.now _ u v (record { counts = c.args.counts }) refl t))

@@ -1,40 +1,26 @@
 -- `instance::decode::total` meets its contract.
-use Prim.Native.Nat.{ℕ, ◌<◌}
-use mathlib.Core.Path.{refl, ap, ◌∙◌}
-use native.Mathlib.Omega.{arith}
-use native.Mathlib.Nat.{le_antisymm}
-use lib.ListN.{length, get_or}
-use borrow.Author.Rules.{rules}
-use Rattle.meaning.specs.Lists.{sum_of}
-use Rattle.schema.specs.Decoded.{front_of}
-use Rattle.instance.proofs.Columns.{sum_of-more}
+use Prim.Native.Nat.{◌<◌}
+use Rattle.std.proofs.Common.{arith, rules, ◌∙◌}
+use lib.ListN.{take}
+use Rattle.std.proofs.lemmas.Iterator.{YieldsList-from_slice, YieldsList-from_map}
+use Rattle.std.proofs.lemmas.Iterator.Consumers.{sum_from_yields_List, fits_from_yields_list}
+use Rattle.std.specs.List.{sum}
+use mathlib.Core.List.{map}
+use lib.ListN.{get_or}
+use Rattle.instance.proofs.Columns.{sum_of-few}
+use Rattle.instance.proofs.Chains.{sum-front}
 use Rattle.instance.proofs.decode.total.Goals as goal
 
-pub loop-i-init : goal.loop-i-init
-loop-i-init c = (omega arith, omega arith, refl)
-
-pub offset_bounds-counts-i : goal.offset_bounds-counts-i
-offset_bounds-counts-i c = let h : c.loop-i.i < length c.args.counts.now = omega arith in search rules
-
-pub bounds-counts-i : goal.bounds-counts-i
-bounds-counts-i c = omega arith
-
-pub overflow_add-sum : goal.overflow_add-sum
-overflow_add-sum c = omega (arith, c.shared_slice_known-in-loop-i-1.given c.loop-i.i)
-
-pub overflow_add-i : goal.overflow_add-i
-overflow_add-i c = omega arith
-
-pub loop-i-smaller : goal.loop-i-smaller
-loop-i-smaller c = omega arith
-
-pub loop-i-preserved : goal.loop-i-preserved
-loop-i-preserved c =
-    let l = c.loop-i in
+pub sum-requires-clause-fits : goal.sum-requires-clause-fits
+sum-requires-clause-fits c =
     let a = c.args in
-    let g = c.shared_slice_known-in-loop-i-1.given l.i in
-    let e = sum_of-more l.i (λ k. get_or a.counts.now k 0) in
-    (omega arith, omega (arith, c.wide-sum.ensures), omega (arith, c.wide-sum.ensures, l.invariant.2))
+    let e = sum-front a.n a.counts.now c.requires.1 in
+    let few = sum_of-few 4294967295 a.n (λ k. get_or a.counts.now k 0) (λ k h. omega (arith, c.type_inv.counts k)) in
+    let small : sum (map (λ x. x) (take a.n a.counts.now)) < 18446744073709551616 = omega arith in
+    fits_from_yields_list c.map.result _ (YieldsList-from_map _ (λ x. x) (YieldsList-from_slice (take a.n a.counts.now) cc) c.map.ensures.closure (λ x r q k. search rules)) small
 
 pub returns : goal.returns
-returns c = let l = c.loop-i in l.invariant.2 ∙ ap (λ (k : ℕ). sum_of (front_of k c.args.counts.now)) (le_antisymm l.invariant.0 c.loop-i-test.false)
+returns c =
+    let a = c.args in
+    sum_from_yields_List c.map.result c.sum.result c.sum.ensures.ran (YieldsList-from_map _ (λ x. x) (YieldsList-from_slice (take a.n a.counts.now) cc) c.map.ensures.closure (λ x r q k. search rules))
+    ∙ sum-front a.n a.counts.now c.requires.1

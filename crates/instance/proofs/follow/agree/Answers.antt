@@ -1,34 +1,19 @@
 -- `instance::follow::agree` meets its contract.
-use mathlib.Core.Path.{sym}
-use native.Mathlib.Omega.{arith}
-use borrow.Author.Tests.{eq-eqb, ne_eqb}
-use Rattle.meaning.proofs.Tabulate.{passed_start, passed-more, passed-fail, passed-done}
+use Rattle.std.proofs.Common.{arith, rules, refl, ◌∙◌}
+use lib.Dec.{eqb}
+use borrow.Author.Tests.{tests}
+use Rattle.theory.specs.Instance.{follow}
+use Rattle.schema.specs.Decoded.{front_of}
+use Rattle.instance.specs.Followed.{link_in}
+use Rattle.std.proofs.lemmas.Iterator.{YieldsList-from_range}
+use Rattle.std.proofs.lemmas.Iterator.Search.{all_from_yields_List}
+use Rattle.instance.proofs.Chains.{all-below}
 use Rattle.instance.proofs.follow.agree.Goals as goal
 
-pub loop-x-init : goal.loop-x-init
-loop-x-init c = passed_start _ _ _
-
-pub follow-requires : goal.follow-requires
-follow-requires c = let P = c.requires in (P.0, P.2.stays c.loop-x.x c.loop-x-test.true)
-
-pub follow-requires-in-loop-x : goal.follow-requires-in-loop-x
-follow-requires-in-loop-x c = let P = c.requires in (P.1, P.3.stays c.loop-x.x c.loop-x-test.true)
-
-pub returns-then-follow : goal.returns-then-follow
-returns-then-follow c =
-    let h = rw (c.follow-in-loop-x.ensures, c.follow.ensures) at c.if-follow.true in
-    sym (passed-fail c.loop-x.invariant c.loop-x-test.true (ne_eqb _ _ h))
-
-pub overflow_add-x : goal.overflow_add-x
-overflow_add-x c = omega arith
-
-pub loop-x-smaller : goal.loop-x-smaller
-loop-x-smaller c = omega arith
-
-pub loop-x-preserved : goal.loop-x-preserved
-loop-x-preserved c =
-    let h = rw (c.follow-in-loop-x.ensures, c.follow.ensures) at c.if-follow.false in
-    passed-more c.loop-x.invariant c.loop-x-test.true (eq-eqb _ _ h)
-
 pub returns : goal.returns
-returns c = sym (passed-done c.loop-x.invariant c.loop-x-test.false)
+returns c =
+    let a = c.args in
+    all_from_yields_List
+    (λ x. eqb (follow (link_in a.links.now) (front_of a.m a.left.now) x) (follow (link_in a.links.now) (front_of a.n a.right.now) x))
+    _ _ c.all.result c.all.ensures.ran (YieldsList-from_range 0 a.rows a.rows refl (omega arith)) (λ x b q k. search (rules, tests))
+    ∙ all-below _ a.rows

@@ -1,39 +1,34 @@
 -- `instance::follow::follow` meets its contract.
-use mathlib.Core.Path.{sym}
+use Prim.Native.Nat.{◌+◌, ◌*◌, ◌<◌}
+use mathlib.Core.Path.{◌≡◌, sym}
 use native.Mathlib.Omega.{arith}
+use lib.ListN.{length, get_or, length-take}
+use Rattle.std.proofs.Common.{get_or-take}
 use borrow.Author.Rules.{rules}
-use Rattle.instance.proofs.Walking.{walked_start, walked-in, walked_more, walked-done}
+use Rattle.instance.proofs.Walking.{walked-in, walked_more, walked-done}
+use Rattle.instance.proofs.follow.follow.Goals.{After-from}
 use Rattle.instance.proofs.follow.follow.Goals as goal
 
-pub loop-i-init : goal.loop-i-init
-loop-i-init c = walked_start _ _ _ _ c.requires.1
+turn : (c : After-from) → c.loop-edge.edge-index < c.args.n
+turn c = omega (arith, length-take c.args.n c.args.edges.now)
 
-pub bounds-edges-i : goal.bounds-edges-i
-bounds-edges-i c = omega arith
+edge-is : (c : After-from) → c.from.result ≡ get_or c.args.edges.now c.loop-edge.edge-index 0
+edge-is c = let h = turn c in rw get_or-take at c.from.ensures
 
-pub overflow_cast-edges : goal.overflow_cast-edges
-overflow_cast-edges c = omega (arith, c.shared_slice_known-in-loop-i-1.given c.loop-i.i)
+inside : (c : After-from) → 512 * c.from.result + c.loop-edge.x < length c.args.links.now
+inside c = rw (edge-is c) (walked-in c.loop-edge.invariant (turn c))
 
-pub overflow_mul-edges : goal.overflow_mul-edges
-overflow_mul-edges c = omega (arith, c.shared_slice_known-in-loop-i-1.given c.loop-i.i)
+pub overflow_add-x : goal.overflow_add-x
+overflow_add-x c = let h = inside c in search rules
 
-pub overflow_add-edges : goal.overflow_add-edges
-overflow_add-edges c = omega (arith, walked-in c.loop-i.invariant c.loop-i-test.true, c.well_formed.0.0)
+pub offset_bounds-links-from : goal.offset_bounds-links-from
+offset_bounds-links-from c = let h = inside c in search rules
 
-pub offset_bounds-links-edges : goal.offset_bounds-links-edges
-offset_bounds-links-edges c = let h = walked-in c.loop-i.invariant c.loop-i-test.true in search rules
+pub bounds-links-from : goal.bounds-links-from
+bounds-links-from c = inside (goal.at.bounds-links-from c).After-from
 
-pub bounds-links-edges : goal.bounds-links-edges
-bounds-links-edges c = walked-in c.loop-i.invariant c.loop-i-test.true
-
-pub overflow_add-i : goal.overflow_add-i
-overflow_add-i c = omega arith
-
-pub loop-i-smaller : goal.loop-i-smaller
-loop-i-smaller c = omega arith
-
-pub loop-i-preserved : goal.loop-i-preserved
-loop-i-preserved c = rw c.wide-x.ensures (walked_more c.loop-i.invariant c.loop-i-test.true)
+pub loop-edge-preserved : goal.loop-edge-preserved
+loop-edge-preserved c = let d = (goal.at.loop-edge-preserved c).After-from in rw (edge-is d) (walked_more c.loop-edge.invariant (turn d))
 
 pub returns : goal.returns
-returns c = sym (walked-done c.loop-i.invariant c.loop-i-test.false)
+returns c = let h = length-take c.args.n c.args.edges.now in sym (walked-done c.loop-edge.invariant (omega (arith, c.loop-edge-test.false)))

@@ -1,5 +1,4 @@
 -- `instance::follow::obeys_equations` meets its contract.
-use Prim.Native.Nat.{◌-◌}
 use mathlib.Core.List.{[]}
 use lib.ListN.{get_or}
 use Rattle.meaning.specs.Schema.{Equation}
@@ -11,6 +10,3 @@ use Rattle.instance.proofs.follow.obeys_equations.Given as goal
 
 abbrev pub invariant-loop-k : goal.invariant-loop-k
 invariant-loop-k l = Passed {A = Equation} (equation_test (tables_of l.schema l.instance l.links [])) l.schema.equations (λ j. equation_of (get_or l.schema.left j no_path) (get_or l.schema.right j no_path)) l.k
-
-abbrev pub decreases-loop-k : goal.decreases-loop-k
-decreases-loop-k l = l.schema.equations - l.k

@@ -1,5 +1,5 @@
 -- `instance::tables::table_list` meets its contract.
-use Prim.Native.Nat.{ℕ, ◌-◌, ◌*◌, ◌≤◌, ◌<◌}
+use Prim.Native.Nat.{ℕ, ◌*◌, ◌≤◌, ◌<◌}
 use mathlib.Core.Path.{◌≡◌}
 use mathlib.Core.List.{List}
 use lib.ListN.{length, get_or}
@@ -11,15 +11,11 @@ use Rattle.instance.proofs.TableList.{table_at}
 use Rattle.instance.proofs.tables.table_list.Given as goal
 
 -- the first c tables are laid out, and the next begins at row first
-pub record Laying (counts : List ℕ) (n : ℕ) (list : List Table) (first c : ℕ) : Type 0 where
-  pub some : c ≤ n
+pub record Laying (counts : List ℕ) (list : List Table) (first c : ℕ) : Type 0 where
   pub few : first ≤ 4294967296 * c
   pub so_far : first ≡ sum_of (front_of c counts)
   pub each : (k : ℕ) → k < c → get_or list k no_table ≡ table_at counts k
   pub long : length list ≡ 16
 
 abbrev pub invariant-loop-c : goal.invariant-loop-c
-invariant-loop-c l = Laying l.counts l.n l.list l.first l.c
-
-abbrev pub decreases-loop-c : goal.decreases-loop-c
-decreases-loop-c l = l.n - l.c
+invariant-loop-c l = Laying l.counts l.list l.first l.c

@@ -1,43 +1,14 @@
 -- `lifts::even::columns_even` meets its contract.
-use mathlib.Core.Path.{sym}
-use native.Mathlib.Omega.{arith}
-use borrow.Author.Tests.{eq-eqb, ne_eqb}
-use Rattle.meaning.proofs.Tabulate.{passed_start, passed-more}
-use Rattle.mapping.proofs.Viewing.{upto-fail, upto_done}
+use Rattle.std.proofs.Common.{arith, rules, refl, ◌∙◌}
+use borrow.Author.Tests.{tests}
+use Rattle.std.proofs.lemmas.Iterator.{YieldsList-from_range}
+use Rattle.std.proofs.lemmas.Iterator.Search.{all_from_yields_List}
+use Rattle.lifts.specs.Even.{even_column_at}
+use Rattle.lifts.proofs.Chains.{all_below}
 use Rattle.lifts.proofs.even.columns_even.Goals as goal
-
-pub loop-b-init : goal.loop-b-init
-loop-b-init c = passed_start _ _ _
-
-pub overflow_add-b : goal.overflow_add-b
-overflow_add-b c = let f = c.requires.1 in omega arith
-
-pub bounds-target_home-k : goal.bounds-target_home-k
-bounds-target_home-k c = let f = c.requires.1 in omega arith
-
-pub overflow_cast-k : goal.overflow_cast-k
-overflow_cast-k c = let f = c.requires.1 in let l = c.loop-b-test.true in omega arith
-
-pub count_over-requires : goal.count_over-requires
-count_over-requires c = c.requires.0
-
-pub returns-then-count_over-ne1 : goal.returns-then-count_over-ne1
-returns-then-count_over-ne1 c =
-    sym (upto-fail c.loop-b.invariant c.loop-b-test.true
-    (rw (eq-eqb _ _ c.if-target_home-k.true, ← c.count_over.ensures, ne_eqb _ _ c.if-count_over-ne1.true)))
-
-pub loop-b-smaller-else-count_over-ne1 : goal.loop-b-smaller-else-count_over-ne1
-loop-b-smaller-else-count_over-ne1 c = let l = c.loop-b-test.true in omega arith
-
-pub loop-b-preserved-else-count_over-ne1 : goal.loop-b-preserved-else-count_over-ne1
-loop-b-preserved-else-count_over-ne1 c = passed-more c.loop-b.invariant c.loop-b-test.true (rw (eq-eqb _ _ c.if-target_home-k.true, ← c.count_over.ensures, eq-eqb _ _ c.if-count_over-ne1.false))
-
-pub loop-b-smaller : goal.loop-b-smaller
-loop-b-smaller c = let l = c.loop-b-test.true in omega arith
-
-pub loop-b-preserved : goal.loop-b-preserved
-loop-b-preserved c = passed-more c.loop-b.invariant c.loop-b-test.true (rw (ne_eqb _ _ c.if-target_home-k.false))
 
 pub returns : goal.returns
 returns c =
-    sym (upto_done c.loop-b.invariant c.loop-b-test.false)
+    let a = c.args in
+    all_from_yields_List (even_column_at a.home.now a.image.now a.n a.target_home.now a.c a.d) _ _ c.all.result c.all.ensures.ran (YieldsList-from_range 0 a.count a.count refl (omega arith)) (λ x b q k. search (rules, tests))
+    ∙ all_below _ a.count

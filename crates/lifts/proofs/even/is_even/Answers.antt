@@ -11,7 +11,7 @@ returns-then-paths_even c =
     let a = c.args in
     rw (even-by a.s a.t a.f c.requires.0 c.requires.1 c.image_classes-over.ensures, sym c.paths_even.ensures ∙ c.if-paths_even.true) c.attributes_even.ensures
 
-pub returns : goal.returns
-returns c =
+pub returns-else-paths_even : goal.returns-else-paths_even
+returns-else-paths_even c =
     let a = c.args in
-    rw (even-by a.s a.t a.f c.requires.0 c.requires.1 c.image_classes-over.ensures, sym c.paths_even.ensures ∙ c.if-paths_even.false)
+    rw (even-by a.s a.t a.f c.requires.0 c.requires.1 c.image_classes-over.ensures, sym c.paths_even.ensures ∙ c.if-paths_even.false) c.if-paths_even.false

@@ -1,27 +1,19 @@
 -- `mapping::attributes::attribute_to` meets its contract.
-use mathlib.Core.Path.{sym}
-use native.Mathlib.Omega.{arith}
-use borrow.Author.Tests.{eq-eqb, ne_eqb}
-use Rattle.mapping.proofs.Counting.{searched-start, searched-more, searched-hit, searched-done}
+use Rattle.std.proofs.Common.{ℕ, ap, Option, unwrap_or, ◌≡◌, ◌≤◌, ◌∙◌, take, length, eqb, rules, arith}
+use Rattle.std.proofs.lemmas.Iterator.{YieldsList-from_slice}
+use Rattle.std.proofs.lemmas.Iterator.Search.{position_from_yields_List}
+use Rattle.meaning.specs.Lists.{position}
+use borrow.Author.Tests.{tests}
+use Rattle.mapping.proofs.Chains.{front, position-or}
 use Rattle.mapping.proofs.attributes.attribute_to.Goals as goal
 
-pub loop-a-init : goal.loop-a-init
-loop-a-init c = searched-start _ _ _ _
-
-pub bounds-image-a : goal.bounds-image-a
-bounds-image-a c = let f = c.requires in omega arith
-
-pub returns-then-b-image : goal.returns-then-b-image
-returns-then-b-image c = sym (searched-hit c.loop-a.invariant c.loop-a-test.true (eq-eqb _ _ c.if-b-image.true)).1
-
-pub overflow_add-a : goal.overflow_add-a
-overflow_add-a c = let f = c.requires in let l = c.loop-a-test.true in omega arith
-
-pub loop-a-smaller : goal.loop-a-smaller
-loop-a-smaller c = let l = c.loop-a-test.true in omega arith
-
-pub loop-a-preserved : goal.loop-a-preserved
-loop-a-preserved c = searched-more c.loop-a.invariant c.loop-a-test.true (ne_eqb _ _ c.if-b-image.false)
-
 pub returns : goal.returns
-returns c = sym (searched-done c.loop-a.invariant c.loop-a-test.false).1
+returns c =
+    let a = c.args in
+    let e = position_from_yields_List (eqb a.b) _ _ c.position.result c.position.ensures.ran (YieldsList-from_slice (take a.n a.image.now) (search rules)) (λ x b q k. search (rules, tests)) in
+    let l : a.n ≤ length a.image.now = omega arith in
+    let n : length (take a.n a.image.now) ≡ a.n = omega arith in
+    c.unwrap_or.ensures
+    ∙ ap (λ (o : Option ℕ). unwrap_or o a.n) e
+    ∙ position-or (eqb a.b) (take a.n a.image.now) a.n n
+    ∙ ap (position (eqb a.b)) (front a.n a.image.now 0 l)

@@ -1,5 +1,5 @@
 -- `mapping::decode::read_images` meets its contract.
-use Prim.Native.Nat.{ℕ, ◌+◌, ◌-◌, ◌*◌, ◌≤◌}
+use Prim.Native.Nat.{ℕ, ◌+◌, ◌*◌, ◌≤◌}
 use mathlib.Core.Path.{◌≡◌}
 use mathlib.Core.List.{List}
 use lib.ListN.{length}
@@ -10,7 +10,6 @@ use Rattle.mapping.specs.Decoded.{images_of, Short}
 use Rattle.mapping.proofs.decode.read_images.Given as goal
 
 pub record Kept (sheet : List ℕ) (at n : ℕ) (edge : List Image) (i p : ℕ) : Type 0 where
-  pub some : i ≤ n
   pub inside : p ≤ 8 * length sheet
   pub near : p ≤ at + 79 * i
   pub read_so_far : Under read_edges n sheet at (images_of i edge) i p
@@ -18,7 +17,4 @@ pub record Kept (sheet : List ℕ) (at n : ℕ) (edge : List Image) (i p : ℕ) 
   pub long : length edge ≡ 32
 
 abbrev pub invariant-loop-i : goal.invariant-loop-i
-invariant-loop-i l = Kept l.sheet l.at l.n l.edge l.i l.p
-
-abbrev pub decreases-loop-i : goal.decreases-loop-i
-decreases-loop-i l = l.n - l.i
+invariant-loop-i l = Kept l.sheet l.at l.n l.edge l.i l.next

@@ -16,10 +16,10 @@ bounds-p-x c =
 pub path_edges-requires : goal.path_edges-requires
 path_edges-requires c =
     let p = c.path_table-p in
-    (c.index-first.ensures.1, first_short c.args.t p.result c.requires.0 p.ensures c.requires.1 c.path_number-x.ensures c.index-first.ensures.0)
+    (omega (arith, c.from-first.ensures), first_short c.args.t p.result c.requires.0 p.ensures c.requires.1 c.path_number-x.ensures c.from-first.ensures)
 
 pub returns : goal.returns
 returns c =
     let p = c.path_table-p in
     let e = c.path_edges.ensures in
-    record { says = first-told c.args.t p.result c.requires.0 p.ensures c.requires.1 c.path_number-x.ensures c.index-first.ensures.0 e.says; short = e.short }
+    record { says = first-told c.args.t p.result c.requires.0 p.ensures c.requires.1 c.path_number-x.ensures c.from-first.ensures e.says; short = e.short }

@@ -1,11 +1,7 @@
 -- `mapping::fits::attributes_fit` meets its contract.
-use Prim.Native.Nat.{◌-◌}
 use Rattle.meaning.proofs.Tabulate.{Passed}
 use Rattle.mapping.proofs.Fitting.{attribute_test}
 use Rattle.mapping.proofs.fits.attributes_fit.Given as goal
 
 abbrev pub invariant-loop-a : goal.invariant-loop-a
-invariant-loop-a l = Passed (attribute_test l.t l.homes l.kinds l.images l.columns) l.attributes (λ k. k) l.a
-
-abbrev pub decreases-loop-a : goal.decreases-loop-a
-decreases-loop-a l = l.attributes - l.a
+invariant-loop-a l = Passed (attribute_test l.t l.homes l.kinds l.images l.columns) l.a-end (λ k. k) l.a

@@ -1,21 +1,29 @@
 -- `migration::matchings::judge_pushed` meets its contract.
-use Rattle.meaning.specs.Calls.{judge_pushed}
-use Rattle.matching.specs.Compared.{partners_of}
-use Rattle.migration.proofs.Judging.{overfull-told, pushed-comparable, pushed-told}
+use mathlib.Core.Path.{ap, ◌∙◌}
+use mathlib.Core.List.{List}
+use Prim.Native.Nat.{ℕ}
+use Rattle.meaning.specs.Formats.{Instance}
+use Rattle.meaning.specs.Matching.{judge_matching}
+use Rattle.meaning.specs.Calls.{Outcome, ◌>>=◌, at, judge_pushed}
+use Rattle.steps.specs.Answers.{outcome_of}
+use Rattle.migration.specs.Sides.{inputs_of, sides_of}
+use Rattle.migration.proofs.Judging.{size-told, pushed-comparable, same-partners}
 use borrow.Author.Rules.{rules}
 use Rattle.migration.proofs.matchings.judge_pushed.Goals as goal
 
 pub judge_matching-requires : goal.judge_matching-requires
 judge_matching-requires c = let z = c.requires in pushed-comparable z.0 c.sigma-pushed.ensures (search rules) z.1.book z.2
 
-pub returns-then-size-eq0 : goal.returns-then-size-eq0
-returns-then-size-eq0 c =
-    let d = c.delta_counts in
-    let j = c.judge_matching in
-    pushed-told c.requires.0 c.sigma-pushed.ensures d.result d.ensures.says c.overfull-size.ensures c.if-size-eq0.true j.result j.new.list c.args.sheet.now j.ensures
-
 pub returns : goal.returns
 returns c =
     let a = c.args in
-    let d = c.delta_counts in
-    overfull-told c.requires.0 d.result d.ensures.says c.overfull-size.ensures c.if-size-eq0.false (partners_of a.x.opened.source a.x.run a.list.now) (λ z. judge_pushed z a.sheet.now)
+    let x = a.x in
+    let y = inputs_of x.opened.now x.sides x.run_links.now x.run_values.now x.book_links.now x.book_values.now in
+    let d = c.delta_counts-counted in
+    let p = c.sigma-pushed in
+    let j = c.judge_matching in
+    ap (λ (l : List ℕ). outcome_of (λ _. l) j.result) (same-partners c.requires.0 p.ensures j.new.list)
+    ∙ j.ensures
+    ∙ ap (λ (A : Instance). at 6 (judge_matching y.m.T A y.book a.sheet.now)) p.ensures.says
+    ∙ ap (λ (o : Outcome (Unit {0})). o >>= λ _. judge_pushed (sides_of y) a.sheet.now) c.in_ok-check_rows.ensures
+    ∙ size-told c.requires.0 d.result d.ensures.says (λ z. judge_pushed z a.sheet.now)

@@ -5,6 +5,3 @@ use Rattle.paths.proofs.chains.chain.Given as goal
 
 abbrev pub invariant-loop-i : goal.invariant-loop-i
 invariant-loop-i l = Chaining l.column l.count l.i (length l.initial.next) l.next l.first
-
-abbrev pub decreases-loop-i : goal.decreases-loop-i
-decreases-loop-i l = l.i

@@ -1,20 +1,15 @@
--- `paths::classes::join_equation` meets its contract. The invariant: the pairs behind the first u paths are joined, and path u ends at the equation's start.
+-- `paths::classes::join_equation` meets its contract. The invariant: the pairs behind the paths before the one at hand are joined, and that one ends at the
+-- equation's start.
 use Prim.Native.Nat.{ℕ, ◌-◌, ◌<◌}
 use mathlib.Core.Path.{◌≡◌}
-use mathlib.Core.List.{List, []}
 use lib.ListN.{get_or}
-use Rattle.paths.specs.declared.Paths.{Paths}
-use Rattle.paths.specs.Chains.{Chained}
+use Rattle.std.specs.Prelude.{Some, unwrap_or}
 use Rattle.paths.specs.Classes.{pairs_at}
 use Rattle.paths.proofs.Joining.{Turns}
 use Rattle.paths.proofs.classes.join_equation.Given as goal
 
--- a table by the columns that the pairs of an equation depend on
-abbrev pub table : List ℕ → List ℕ → List ℕ → Paths
-table end first rank = record { count = 0; start = []; end = end; length = []; parent = []; last = []; class = []; first = first; rank = rank }
+abbrev pub invariant-loop-at : goal.invariant-loop-at
+invariant-loop-at l = Turns (pairs_at l.fn.p l.nodes l.left l.right) l.fn.p.count l.initial.of (unwrap_or l.at l.fn.p.count) l.of × ((u : ℕ) → l.at ≡ Some u → (u < l.fn.p.count) × (get_or l.fn.p.end u 0 ≡ l.left.start))
 
-abbrev pub invariant-loop-u : goal.invariant-loop-u
-invariant-loop-u l = (end : List ℕ) → Chained end l.count 0 l.next l.ends → Turns (pairs_at (table end l.first l.rank) l.nodes l.left l.right) l.count l.initial.of l.u l.of × (l.u < l.count → get_or end l.u 0 ≡ l.left.start)
-
-abbrev pub decreases-loop-u : goal.decreases-loop-u
-decreases-loop-u l = l.count - l.u
+abbrev pub decreases-loop-at : goal.decreases-loop-at
+decreases-loop-at l = l.fn.p.count - unwrap_or l.at l.fn.p.count

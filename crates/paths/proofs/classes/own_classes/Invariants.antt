@@ -1,10 +1,6 @@
 -- `paths::classes::own_classes` meets its contract. The invariant: the first i numbers are written.
-use Prim.Native.Nat.{◌-◌, ◌≤◌}
 use Rattle.paths.specs.Table.{Filled}
 use Rattle.paths.proofs.classes.own_classes.Given as goal
 
 abbrev pub invariant-loop-i : goal.invariant-loop-i
-invariant-loop-i l = (l.i ≤ 256) × Filled 256 (λ k. k) l.i l.of
-
-abbrev pub decreases-loop-i : goal.decreases-loop-i
-decreases-loop-i l = 256 - l.i
+invariant-loop-i l = Filled 256 (λ k. k) l.i l.of

@@ -1,11 +1,7 @@
 -- `pi::links::places_after` meets its contract.
-use Prim.Native.Nat.{◌-◌}
 use Rattle.paths.specs.Table.{Filled}
 use Rattle.pi.specs.Links.{place_after}
 use Rattle.pi.proofs.links.places_after.Given as goal
 
 abbrev pub invariant-loop-j : goal.invariant-loop-j
 invariant-loop-j l = Filled 64 (place_after l.g l.paths l.k l.e) l.j l.places
-
-abbrev pub decreases-loop-j : goal.decreases-loop-j
-decreases-loop-j l = l.n - l.j

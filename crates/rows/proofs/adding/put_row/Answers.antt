@@ -1,5 +1,5 @@
 -- `rows::adding::put_row` meets its contract.
-use mathlib.Core.Path.{◌≡◌, sym}
+use mathlib.Core.Path.{◌≡◌}
 use native.Mathlib.Omega.{arith}
 use lib.ListN.{length}
 use borrow.Author.Rules.{rules}
@@ -15,35 +15,14 @@ source-long c = search rules
 node_long : (c : Start) → length c.args.schema.node ≡ 16
 node_long c = search rules
 
-counts_long : (c : Start) → length c.args.run.counts ≡ 16
-counts_long c = search rules
-
-pub slice_bounds-join_columns-end : goal.slice_bounds-join_columns-end
-slice_bounds-join_columns-end c = sym (source-long (goal.at.slice_bounds-join_columns-end c).Start)
-
 pub join_columns-requires : goal.join_columns-requires
 join_columns-requires c = let a = c.args in let A = c.requires.0 in rw c.one_row-row.ensures (row-joins a.schema A a.run c.requires.2 a.table c.requires.1 c.requires.3 a.schema.graph.edges a.schema.graph.source (source_in a.schema A) (omega (arith, source-long (goal.at.join_columns-requires c).Start, A.limits.edges)) (omega (arith, c.requires.4.for_links)) (omega (arith, c.requires.5.for_links)))
-
-pub slice_bounds-join_columns-end-4 : goal.slice_bounds-join_columns-end-4
-slice_bounds-join_columns-end-4 c = sym (node_long (goal.at.slice_bounds-join_columns-end-4 c).Start)
 
 pub join_columns-requires-2 : goal.join_columns-requires-2
 join_columns-requires-2 c = let a = c.args in let A = c.requires.0 in rw c.one_row-row.ensures (row-joins a.schema A a.run c.requires.2 a.table c.requires.1 c.requires.3 a.schema.attributes a.schema.node (home_in a.schema A) (omega (arith, node_long (goal.at.join_columns-requires-2 c).Start, A.limits.attributes)) (omega (arith, c.requires.4.for_values)) (omega (arith, c.requires.5.for_values)))
 
-pub offset_bounds-after-table : goal.offset_bounds-after-table
-offset_bounds-after-table c = let n = c.requires.0.limits.nodes in let h = c.requires.1 in search rules
-
-pub bounds-after-table : goal.bounds-after-table
-bounds-after-table c = let n = c.requires.0.limits.nodes in omega (arith, c.requires.1)
-
 pub overflow_add-after : goal.overflow_add-after
 overflow_add-after c = omega (arith, counts-few c.args.schema c.args.run c.requires.2 c.args.table c.requires.1)
-
-pub offset_bounds-after-table-2 : goal.offset_bounds-after-table-2
-offset_bounds-after-table-2 c = let n = c.requires.0.limits.nodes in let h = c.requires.1 in search rules
-
-pub bounds-after-table-2 : goal.bounds-after-table-2
-bounds-after-table-2 c = let n = c.requires.0.limits.nodes in omega (arith, c.requires.1)
 
 pub returns : goal.returns
 returns c = let a = c.args in row_put a.schema c.requires.0 a.run c.requires.2 a.table c.requires.1 a.row_links.now a.row_values.now a.links.now a.values.now _ _ c.requires.3 (rw c.one_row-row.ensures at c.join_columns.ensures) (rw c.one_row-row.ensures at c.join_columns-2.ensures)

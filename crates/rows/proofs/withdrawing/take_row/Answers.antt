@@ -1,5 +1,5 @@
 -- `rows::withdrawing::take_row` meets its contract.
-use mathlib.Core.Path.{◌≡◌, sym}
+use mathlib.Core.Path.{◌≡◌}
 use native.Mathlib.Omega.{arith}
 use lib.ListN.{length}
 use borrow.Author.Rules.{rules}
@@ -21,17 +21,8 @@ node_long c = search rules
 pub take_row_out-requires : goal.take_row_out-requires
 take_row_out-requires c = let a = c.args in let A = c.requires.0 in row-one-more a.schema A a.run c.requires.2 a.table a.x c.requires.1 c.requires.3 a.schema.graph.edges a.schema.graph.source (source_in a.schema A) (omega (arith, source-long (goal.at.take_row_out-requires c).Start, A.limits.edges)) (omega (arith, c.requires.4.for_links))
 
-pub slice_bounds-move_links_down-end : goal.slice_bounds-move_links_down-end
-slice_bounds-move_links_down-end c = sym (source-long (goal.at.slice_bounds-move_links_down-end c).Start)
-
-pub slice_bounds-move_links_down-end-2 : goal.slice_bounds-move_links_down-end-2
-slice_bounds-move_links_down-end-2 c = sym (target-long (goal.at.slice_bounds-move_links_down-end-2 c).Start)
-
 pub move_links_down-requires : goal.move_links_down-requires
 move_links_down-requires c = let O = (let a = c.args in let A = c.requires.0 in row-one-more a.schema A a.run c.requires.2 a.table a.x c.requires.1 c.requires.3 a.schema.graph.edges a.schema.graph.source (source_in a.schema A) (omega (arith, source-long (goal.at.move_links_down-requires c).Start, A.limits.edges)) {l = c.args.links.now} (omega (arith, c.requires.4.for_links))) in (record { homes = O.homes; tables = O.counted; rows = O.few }, omega (arith, target-long (goal.at.move_links_down-requires c).Start, c.requires.0.limits.edges), omega (arith, c.requires.4.for_links, c.take_row_out.ensures.long))
-
-pub slice_bounds-take_row_out-end-3 : goal.slice_bounds-take_row_out-end-3
-slice_bounds-take_row_out-end-3 c = sym (node_long (goal.at.slice_bounds-take_row_out-end-3 c).Start)
 
 pub take_row_out-requires-2 : goal.take_row_out-requires-2
 take_row_out-requires-2 c = let a = c.args in let A = c.requires.0 in row-one-more a.schema A a.run c.requires.2 a.table a.x c.requires.1 c.requires.3 a.schema.attributes a.schema.node (home_in a.schema A) (omega (arith, node_long (goal.at.take_row_out-requires-2 c).Start, A.limits.attributes)) (omega (arith, c.requires.4.for_values))

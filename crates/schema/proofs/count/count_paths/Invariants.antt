@@ -1,10 +1,6 @@
 -- `schema::count::count_paths` meets its contract. The invariant: the paths of fewer than k edges are counted, and those of k edges tallied.
-use Prim.Native.Nat.{◌-◌}
 use Rattle.schema.proofs.Tallies.{Levels}
 use Rattle.schema.proofs.count.count_paths.Given as goal
 
 abbrev pub invariant-loop-k : goal.invariant-loop-k
 invariant-loop-k l = Levels l.g l.tally l.paths l.k
-
-abbrev pub decreases-loop-k : goal.decreases-loop-k
-decreases-loop-k l = l.g.nodes - l.k

@@ -9,35 +9,23 @@ use Rattle.schema.proofs.heights.has_loop.Goals.{After-node_height}
 use Rattle.schema.proofs.heights.has_loop.Goals as goal
 
 height-is : (c : After-node_height) → c.node_height.result ≡ height_within (graph_of c.args.g) c.args.g.nodes c.loop-n.n
-height-is c = c.node_height.ensures (graph_of c.args.g) c.list_edges-lists.ensures
-
-pub list_edges-lists-requires : goal.list_edges-lists-requires
-list_edges-lists-requires c = c.requires
+height-is c = c.node_height.ensures (graph_of c.args.g) c.list-lists.ensures
 
 pub loop-n-init : goal.loop-n-init
 loop-n-init c = missed-start _ _
 
-pub overflow_cast-n : goal.overflow_cast-n
-overflow_cast-n c = omega (arith, c.loop-n-test.true, c.requires.nodes)
-
 pub node_height-requires : goal.node_height-requires
-node_height-requires c = record { graph = graph_of c.args.g; lists = c.list_edges-lists.ensures; deep = c.requires.nodes; low = omega (arith, c.loop-n-test.true, c.requires.nodes) }
+node_height-requires c = record { graph = graph_of c.args.g; lists = c.list-lists.ensures; deep = c.requires.nodes; low = omega (arith, c.loop-n-test.true, c.requires.nodes) }
 
-pub returns-then-node_height-nodes : goal.returns-then-node_height-nodes
-returns-then-node_height-nodes c =
+pub returns-then-node_height-g : goal.returns-then-node_height-g
+returns-then-node_height-g c =
     let g = c.args.g in
-    sym (missed-hit c.loop-n.invariant c.loop-n-test.true (has_path_of-height (graph_of g) g.nodes c.loop-n.n ∙ eq-eqb _ _ (sym (height-is (goal.at.returns-then-node_height-nodes c).After-node_height) ∙ c.if-node_height-nodes.true)))
-
-pub overflow_add-n : goal.overflow_add-n
-overflow_add-n c = omega (arith, c.loop-n-test.true, c.requires.nodes)
-
-pub loop-n-smaller : goal.loop-n-smaller
-loop-n-smaller c = let t = c.loop-n-test.true in omega arith
+    sym (missed-hit c.loop-n.invariant c.loop-n-test.true (has_path_of-height (graph_of g) g.nodes c.loop-n.n ∙ eq-eqb _ _ (sym (height-is (goal.at.returns-then-node_height-g c).After-node_height) ∙ c.if-node_height-g.true)))
 
 pub loop-n-preserved : goal.loop-n-preserved
 loop-n-preserved c =
     let g = c.args.g in
-    missed_more c.loop-n.invariant c.loop-n-test.true (has_path_of-height (graph_of g) g.nodes c.loop-n.n ∙ ne_eqb _ _ (λ q. c.if-node_height-nodes.false (height-is (goal.at.loop-n-preserved c).After-node_height ∙ q)))
+    missed_more c.loop-n.invariant c.loop-n-test.true (has_path_of-height (graph_of g) g.nodes c.loop-n.n ∙ ne_eqb _ _ (λ q. c.if-node_height-g.false (height-is (goal.at.loop-n-preserved c).After-node_height ∙ q)))
 
 pub returns : goal.returns
 returns c = sym (missed-done c.loop-n.invariant c.loop-n-test.false)

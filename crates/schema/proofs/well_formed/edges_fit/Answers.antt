@@ -1,23 +1,18 @@
--- `schema::well_formed::edges_fit` meets its contract. The invariant: the first i edges fit.
-use mathlib.Core.Path.{sym, ◌∙◌}
+-- `schema::well_formed::edges_fit` meets its contract: the chain tests each edge.
+use mathlib.Core.Path.{refl, ◌∙◌}
 use native.Mathlib.Omega.{arith}
-use Rattle.meaning.proofs.Tabulate.{passed_start, passed-more, passed-fail, passed-done}
+use borrow.Author.Rules.{rules}
+use borrow.Author.Tests.{tests}
+use lib.ListN.{get_or}
+use lib.Dec.{ltb}
+use mathlib.Core.Bool.{◌&&◌}
+use Rattle.std.proofs.lemmas.Iterator.{YieldsList-from_range}
+use Rattle.std.proofs.lemmas.Iterator.Search.{all_from_yields_List}
+use Rattle.schema.proofs.Chains.{all-range}
 use Rattle.schema.proofs.well_formed.edges_fit.Goals as goal
 
-pub loop-i-init : goal.loop-i-init
-loop-i-init c = passed_start _ _ _
-
-pub overflow_add-i : goal.overflow_add-i
-overflow_add-i c = omega arith
-
-pub loop-i-smaller : goal.loop-i-smaller
-loop-i-smaller c = omega arith
-
-pub loop-i-preserved : goal.loop-i-preserved
-loop-i-preserved c = passed-more c.loop-i.invariant c.loop-i-test.true (sym c.edge_fits.ensures ∙ c.if-edge_fits.true)
-
-pub returns-else-edge_fits : goal.returns-else-edge_fits
-returns-else-edge_fits c = sym (passed-fail c.loop-i.invariant c.loop-i-test.true (sym c.edge_fits.ensures ∙ c.if-edge_fits.false))
-
 pub returns : goal.returns
-returns c = sym (passed-done c.loop-i.invariant c.loop-i-test.false)
+returns c =
+    let g = c.args.g in
+    all_from_yields_List (λ i. ltb (get_or g.source i 0) g.nodes && ltb (get_or g.target i 0) g.nodes) _ _ _ c.all.ensures.ran (YieldsList-from_range 0 g.edges g.edges refl (omega arith)) (λ x b q k. search (rules, tests))
+    ∙ all-range _ _ g.edges _ (λ i. refl)

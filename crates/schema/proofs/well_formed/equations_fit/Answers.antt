@@ -1,29 +1,18 @@
--- `schema::well_formed::equations_fit` meets its contract. The invariant: the first i equations fit.
-use mathlib.Core.Path.{sym, ◌∙◌}
+-- `schema::well_formed::equations_fit` meets its contract: the chain tests each equation.
+use mathlib.Core.Path.{refl, ◌∙◌}
 use native.Mathlib.Omega.{arith}
-use Rattle.meaning.proofs.Tabulate.{passed_start, passed-more, passed-fail, passed-done}
+use borrow.Author.Rules.{rules}
+use borrow.Author.Tests.{tests}
+use lib.ListN.{get_or}
+use Rattle.std.proofs.lemmas.Iterator.{YieldsList-from_range}
+use Rattle.std.proofs.lemmas.Iterator.Search.{all_from_yields_List}
+use Rattle.meaning.specs.Judge.{equation_fits}
+use Rattle.schema.specs.Decoded.{graph_of, equation_of, no_path}
+use Rattle.schema.proofs.Chains.{all-range}
 use Rattle.schema.proofs.well_formed.equations_fit.Goals as goal
 
-pub returns-then-n-eq0 : goal.returns-then-n-eq0
-returns-then-n-eq0 c = rw c.if-n-eq0.true
-
-pub loop-i-init : goal.loop-i-init
-loop-i-init c = passed_start _ _ _
-
-pub equation_fits-requires : goal.equation_fits-requires
-equation_fits-requires c = let a = c.requires in (a.edges, a.left.each _ c.loop-i-test.true, a.right.each _ c.loop-i-test.true)
-
-pub overflow_add-i : goal.overflow_add-i
-overflow_add-i c = omega arith
-
-pub loop-i-smaller : goal.loop-i-smaller
-loop-i-smaller c = omega arith
-
-pub loop-i-preserved : goal.loop-i-preserved
-loop-i-preserved c = passed-more c.loop-i.invariant c.loop-i-test.true (sym c.equation_fits.ensures ∙ c.if-equation_fits.true)
-
-pub returns-else-equation_fits : goal.returns-else-equation_fits
-returns-else-equation_fits c = sym (passed-fail c.loop-i.invariant c.loop-i-test.true (sym c.equation_fits.ensures ∙ c.if-equation_fits.false))
-
 pub returns : goal.returns
-returns c = sym (passed-done c.loop-i.invariant c.loop-i-test.false)
+returns c =
+    let t = c.args.t in
+    all_from_yields_List (λ i. equation_fits (graph_of t.graph) (equation_of (get_or t.left i no_path) (get_or t.right i no_path))) _ _ _ c.all.ensures.ran (YieldsList-from_range 0 t.equations t.equations refl (omega arith)) (λ x b q k. search (rules, tests))
+    ∙ all-range _ _ t.equations _ (λ i. refl)

@@ -3,9 +3,6 @@ use native.Mathlib.Omega.{arith}
 use Rattle.text.proofs.Digits.{one-room, one_written, front-room, last-room, last_written}
 use Rattle.text.proofs.decimal.+put_decimal.Goals as goal
 
-pub digit-requires : goal.digit-requires
-digit-requires t c = c.if-n-lt10.true
-
 pub bounds-out-at : goal.bounds-out-at
 bounds-out-at t c = one-room c.args.n c.requires c.if-n-lt10.true
 
@@ -17,9 +14,6 @@ returns-then-n-lt10 t c = one_written c.args.n c.requires c.if-n-lt10.true c.dig
 
 pub put_decimal-next-requires : goal.put_decimal-next-requires
 put_decimal-next-requires t c = (omega arith, front-room c.args.n c.requires c.if-n-lt10.false c.ranges.n.fits)
-
-pub digit-requires-2 : goal.digit-requires-2
-digit-requires-2 t c = omega arith
 
 pub bounds-out-next : goal.bounds-out-next
 bounds-out-next t c = last-room c.args.n c.requires c.if-n-lt10.false c.ranges.n.fits c.put_decimal-next.ensures

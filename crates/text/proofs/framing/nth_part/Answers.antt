@@ -3,17 +3,17 @@ use native.Mathlib.Omega.{arith}
 use Rattle.text.proofs.SheetParts.{begins, ends_next, nth-found}
 use Rattle.text.proofs.framing.nth_part.Goals as goal
 
-pub loop-i-init : goal.loop-i-init
-loop-i-init c = (begins _, omega arith)
+pub loop-init : goal.loop-init
+loop-init c = begins _
 
 pub sheet_at-at-requires : goal.sheet_at-at-requires
-sheet_at-at-requires c = c.loop-i.invariant.0.within
+sheet_at-at-requires c = c.loop.invariant.within
 
-pub loop-i-preserved : goal.loop-i-preserved
-loop-i-preserved c = (ends_next c.loop-i.invariant.0 c.sheet_at-at.ensures, omega arith)
+pub loop-preserved : goal.loop-preserved
+loop-preserved c = ends_next c.loop.invariant c.sheet_at-at.ensures
 
 pub sheet_at-requires : goal.sheet_at-requires
-sheet_at-requires c = c.loop-i.invariant.0.within
+sheet_at-requires c = c.loop.invariant.within
 
 pub returns : goal.returns
-returns c = nth-found c.loop-i.invariant.0 c.sheet_at.ensures (let e = c.loop-i.invariant.1 in omega arith)
+returns c = nth-found c.loop.invariant c.sheet_at.ensures (omega arith)

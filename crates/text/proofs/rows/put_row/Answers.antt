@@ -2,7 +2,7 @@
 use native.Mathlib.Omega.{arith}
 use Rattle.text.specs.Rows.{row_text}
 use Rattle.text.proofs.Pieces.{first-room, second-room, third-room, fourth-room, LineEnds, line-ends}
-use Rattle.text.proofs.rows.put_row.Goals.{After-slice_known-5-1}
+use Rattle.text.proofs.rows.put_row.Goals.{After-put_cells-d}
 use Rattle.text.proofs.rows.put_row.Goals as goal
 
 pub put_decimal-a-requires : goal.put_decimal-a-requires
@@ -17,16 +17,16 @@ put_cells-c-requires c = (third-room _ _ _ _ c.requires.0 c.put_decimal-a.ensure
 pub put_cells-d-requires : goal.put_cells-d-requires
 put_cells-d-requires c = (fourth-room _ _ _ _ c.requires.0 c.put_decimal-a.ensures c.put_part-b.ensures c.put_cells-c.ensures, c.requires.1.for_values, c.requires.3)
 
-ended : (c : After-slice_known-5-1) → LineEnds c.args.out.now c.args.at
-    (row_text c.args.source.now c.args.links.now c.args.node.now c.args.values.now c.args.table c.args.row)
+ended : (c : After-put_cells-d) → LineEnds c.args.out.now c.args.at
+    (row_text c.args.links.home.now c.args.links.cells.now c.args.values.home.now c.args.values.cells.now c.args.table c.args.row)
     c.put_cells-d.result c.put_cells-d.new.out
 ended c = line-ends _ _ _ _ c.requires.0 c.put_decimal-a.ensures c.put_part-b.ensures c.put_cells-c.ensures c.put_cells-d.ensures
 
 pub bounds-out-d : goal.bounds-out-d
-bounds-out-d c = (ended c).room
+bounds-out-d c = (ended (goal.at.bounds-out-d c).After-put_cells-d).room
 
 pub overflow_add-result : goal.overflow_add-result
-overflow_add-result c = omega (arith, (ended c).room, (ended c).long, c.well_formed.0.0)
+overflow_add-result c = omega (arith, (ended (goal.at.overflow_add-result c).After-put_cells-d).room, (ended (goal.at.overflow_add-result c).After-put_cells-d).long, c.well_formed.0.0)
 
 pub returns : goal.returns
-returns c = (ended c).written
+returns c = (ended (goal.at.returns c).After-put_cells-d).written

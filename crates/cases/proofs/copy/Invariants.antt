@@ -1,6 +1,0 @@
--- `cases::copy` copies a byte a turn.
-use Rattle.std.proofs.Common.{◌-◌}
-use Rattle.cases.proofs.copy.Given as goal
-
-abbrev pub decreases-loop-i : goal.decreases-loop-i
-decreases-loop-i l = l.n - l.i

@@ -1,8 +1,0 @@
--- `migration::exports::migration_check_raw` meets its contract.
-use mathlib.Core.Path.{ap, ◌∙◌}
-use Rattle.meaning.specs.Calls.{Outcome}
-use Rattle.migration.specs.Answers.{encoded, checked}
-use Rattle.migration.proofs.exports.migration_check_raw.Goals as goal
-
-pub returns : goal.returns
-returns c = c.verdict_number.ensures ∙ ap (λ (o : Outcome (Unit {0})). encoded (checked o)) c.check_raw.ensures

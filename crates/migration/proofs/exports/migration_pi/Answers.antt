@@ -1,8 +1,0 @@
--- `migration::exports::migration_pi` meets its contract.
-use Prim.Native.Nat.{ℕ}
-use mathlib.Core.Path.{ap, ◌∙◌}
-use Rattle.migration.specs.Answers.{returned}
-use Rattle.migration.proofs.exports.migration_pi.Goals as goal
-
-pub returns : goal.returns
-returns c = ap (λ (n : ℕ). (n, c.pi.new.tray)) c.written_number.ensures ∙ ap returned c.pi.ensures
