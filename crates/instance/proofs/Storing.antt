@@ -62,15 +62,18 @@ module _ (l ys : List ℕ) (base n : ℕ) (h : base + n ≤ length l) (e : lengt
   put-length = search (rules, places)
 
 -- ---- copied
-pub copied-part : (list : List ℕ) (place n : ℕ) (l : List ℕ) (base : ℕ) → place + n ≤ length list → base + n ≤ length l
-    → Copied list place n base l (put_mid base (base + n - base) l (take (place + n - place) (drop place list)))
-copied-part list place n l base h k =
-    let part = take (place + n - place) (drop place list) in
-    let e : length part ≡ n = simp (length-take, length-drop) (omega arith) in
+pub copied_none : (list : List ℕ) (place base : ℕ) (l : List ℕ) → Copied list place 0 base l l
+copied_none list place base l = record { each = below_none _; other = λ k h. refl; long = refl }
+
+pub copied_more : {list : List ℕ} {place i base : ℕ} {l r : List ℕ} → Copied list place i base l r → base + i < length r → Copied list place (i + 1) base l (set r (base + i) (get_or list (place + i) 0))
+copied_more {list} {place} {i} {base} {l} {r} u h =
+    let v = get_or list (place + i) 0 in
     record {
-      each = λ i m. put-here l part base n k e i m ∙ (let p : i < place + n - place = omega arith in rw (get_or-take, get_or-drop) refl);
-      other = put-other l part base n k e;
-      long = put-length l part base n k e;
+      each = below_more (λ k. get_or (set r (base + i) v) (base + k) 0 ≡ get_or list (place + k) 0) i
+          (λ k m. get_or-set_other r (base + i) (base + k) v 0 (λ q. let z : base + k ≡ base + i = q in omega arith) ∙ u.each k m)
+          (get_or-set_same r (base + i) v 0 h);
+      other = λ k g. get_or-set_other r (base + i) k v 0 (g i (omega arith)) ∙ u.other k (λ j m. g j (omega arith));
+      long = length-set r (base + i) v ∙ u.long;
     }
 
 pub copied-stored : {list : List ℕ} {place n base : ℕ} {l r : List ℕ} → Copied list place n base l r → Stored (λ i. get_or list (place + i) 0) n base l r

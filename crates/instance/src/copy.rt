@@ -7,5 +7,7 @@ pub fn copy_column(list: &[u32], place: usize, n: usize, out: &mut [u32], base: 
     requires { (place + n ≤ length list.now) × (base + n ≤ length out.old) }
     ensures { Copied list.now place n base out.old out.new }
 {
-    out[base..base + n].copy_from_slice(&list[place..place + n]);
+    for i in 0..n {
+        out[base + i] = list[place + i];
+    }
 }

@@ -52,7 +52,7 @@ module _ (s : Schema) (sheet : List ℕ) where
     nodes-read : times n (field 4) sheet 0 ≡ reads (numbers_in sheet 0 n) (4 * n)
     nodes-read = (fixed-times n (fixed-field 4)).here sheet 0 (omega arith) ∙ ap (reads (numbers_in sheet 0 n)) (omega arith)
 
-    pub mapping-fails : times k read_edges sheet (4 * n) ≡ fails 1 → read_mapping (schema_of s) sheet 0 ≡ fails 1
+    pub mapping-fails : {number : ℕ} → times k read_edges sheet (4 * n) ≡ fails number → read_mapping (schema_of s) sheet 0 ≡ fails number
     mapping-fails e = rw (nodes-read, edges_are, e)
 
     module _ {images : List (List ℕ)} {q : ℕ} (e : times k read_edges sheet (4 * n) ≡ reads images q) where

@@ -3,6 +3,7 @@ pub mod Trays
 pub mod Pushing
 pub mod Joining
 pub mod Validity
+pub mod Checking
 pub mod Judging
 pub mod Grouping
 pub mod Turning

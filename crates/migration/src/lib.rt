@@ -19,6 +19,7 @@ pub use first::first_path;
 pub use joins::pi;
 pub use migrate::{delta, sigma};
 pub use printing::push;
+pub use schema::faults::Fault;
 pub use steps::{Refusal, Verdict, Written};
 pub use turnings::{pushed_to_raw, raw_to_pushed};
 

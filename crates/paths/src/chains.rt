@@ -9,8 +9,8 @@ use schema::Schema;
 pub fn chain(
     column: &[u8],
     count: usize,
-    next: &mut [Option<u8>],
-    first: &mut [Option<u8>; Schema::NODES],
+    next: &mut [Option<u16>],
+    first: &mut [Option<u16>; Schema::NODES],
 )
     requires { Small column.now count × (count ≤ length next.old) × (first.old ≡ replicate 16 None) }
     ensures { Chained column.now count 0 next.new first.new }
@@ -18,17 +18,17 @@ pub fn chain(
     for i in (0..count).rev() {
         let v = usize::from(column[i]);
         next[i] = first[v];
-        first[v] = Some(i as u8);
+        first[v] = Some(i as u16);
     }
 }
 
 // The first place from place i on that holds v, where the place before i holds it too.
 pub fn next_place(
-    next: &[Option<u8>],
-    first: &[Option<u8>; Schema::NODES],
+    next: &[Option<u16>],
+    first: &[Option<u16>; Schema::NODES],
     v: u8,
     i: usize,
-) -> Option<u8>
+) -> Option<u16>
     requires { (v < 16) × (i ≤ length next.now) }
     ensures { result ≡ next_place next.now first.now v i }
 {

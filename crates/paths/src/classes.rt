@@ -93,8 +93,8 @@ fn join_followers(
 // ends has the first, where there is one.
 fn join_equation(
     p: Paths,
-    next: &[Option<u8>],
-    ends: &[Option<u8>; Schema::NODES],
+    next: &[Option<u16>],
+    ends: &[Option<u16>; Schema::NODES],
     of: &mut [u8; Schema::PATHS],
     left: Path,
     right: Path,

@@ -76,7 +76,7 @@ pub fn fill(schema: Schema) -> Paths
                 t.end[n] = g.target[k];
                 t.length[n] = longer;
                 t.parent[n] = h as u8;
-                t.last[n] = edge;
+                t.last[n] = edge as u8;
                 n += 1;
                 e = k + 1;
             }

@@ -40,7 +40,9 @@ fn take_out(l: &mut [u32], base: usize, n: usize, x: usize)
     requires { (x ≤ n) × (base + n + 1 ≤ length l.old) }
     ensures { TakenOut l.old base n x l.new }
 {
-    l.copy_within(base + x + 1..base + n + 1, base + x);
+    for i in x..n {
+        l[base + i] = l[base + i + 1];
+    }
 }
 
 // Takes place x out of each of n columns that is one of a table. Counts has the rows that are left.

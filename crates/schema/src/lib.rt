@@ -101,6 +101,7 @@ fn test_schema(t: Schema) -> Result<(), Fault>
 }
 
 // A schema sheet judged: what it says, or the first fault that it has.
+#[inline(always)]
 pub fn judge_schema(s: &[u8]) -> Result<Schema, Fault>
     ensures says { judged_of schema_of result ≡ judge_schema s.now }
     ensures sound { IfOk result Sound }

@@ -20,6 +20,7 @@ use schema::faults::Fault;
 use schema::{Graph, Path, Schema, judge_path, judge_schema};
 
 // The sheet of a schema, at a place.
+#[inline(always)]
 pub fn accept_schema(s: &[u8], place: u8) -> Result<Schema, Refusal>
     ensures says { outcome_of schema_of result ≡ at place (judge_schema s.now) }
     ensures sound { IfOk result Sound }
@@ -34,16 +35,27 @@ pub struct Category {
     pub paths: Paths,
 }
 
+// A judged schema with the table of its paths.
+#[inline(always)]
+pub fn listed(schema: Schema) -> Category
+    requires { Sound schema }
+    ensures says { listed_schema result ≡ schema_of schema }
+    ensures listed { IsListed result }
+{
+    Category {
+        schema,
+        paths: path_table(schema),
+    }
+}
+
 // The sheet of a schema at a place, with the table of the schema's paths.
+#[inline(always)]
 pub fn open_schema(s: &[u8], place: u8) -> Result<Category, Refusal>
     ensures says { outcome_of listed_schema result ≡ at place (judge_schema s.now) }
     ensures listed { IfOk result IsListed }
 {
     let schema = accept_schema(s, place)?;
-    Ok(Category {
-        schema,
-        paths: path_table(schema),
-    })
+    Ok(listed(schema))
 }
 
 // The sheet of a path of a judged schema's graph, at a place.
@@ -56,6 +68,7 @@ pub fn open_path(graph: &Graph, p: &[u8], place: u8) -> Result<Path, Refusal>
 }
 
 // The sheet of a mapping between two schemas, at a place; of the first schema no path is asked for.
+#[inline(always)]
 pub fn open_mapping(
     source: &Schema,
     target: &Category,
@@ -120,6 +133,7 @@ pub fn between(source: &Category, target: &Category, mapping: &Mapping) -> Opene
 }
 
 // The sheets at places 1, 2 and 3: two schemas, and a mapping between them.
+#[inline(always)]
 pub fn open(s: &[u8], t: &[u8], f: &[u8]) -> Result<Opened, Refusal>
     ensures says { outcome_of migration_of result ≡ migration s.now t.now f.now }
     ensures ready { IfOk result Ready }

@@ -26,7 +26,7 @@ returns-then-lacks_at-clause-says c =
 
 pub returns-in_err-images-clause-says : goal.returns-in_err-images-clause-says
 returns-in_err-images-clause-says c =
-    let cut = mapping-fails c.args.s c.args.sheet.now (search (rules, tests)) in
+    let cut = mapping-fails c.args.s c.args.sheet.now (search (rules, tests)) {number = 1} in
     search (rules, cut)
 
 pub returns-then-lacks_at-2-clause-says : goal.returns-then-lacks_at-2-clause-says

@@ -85,6 +85,9 @@ bounds-t-n-in-Some-2 c = room (goal.at.bounds-t-n-in-Some-2 c).After-from-k
 pub bounds-t-n-in-Some-3 : goal.bounds-t-n-in-Some-3
 bounds-t-n-in-Some-3 c = room (goal.at.bounds-t-n-in-Some-3 c).After-from-k
 
+pub overflow_cast-t-in-Some : goal.overflow_cast-t-in-Some
+overflow_cast-t-in-Some c = omega (arith, c.from-k.ensures, (first (goal.at.overflow_cast-t-in-Some c).After-from-k).within, (fits_in (goal.at.overflow_cast-t-in-Some c).Start).edges)
+
 pub bounds-t-n-in-Some-4 : goal.bounds-t-n-in-Some-4
 bounds-t-n-in-Some-4 c = room (goal.at.bounds-t-n-in-Some-4 c).After-from-k
 
